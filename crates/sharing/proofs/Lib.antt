@@ -1,0 +1,4 @@
+pub mod Pairs
+pub mod ArrivalLaws
+pub mod TurnsLaws
+pub mod Dealing

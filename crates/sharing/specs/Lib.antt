@@ -1,0 +1,4 @@
+pub mod Shares
+pub mod Arrival
+pub mod Turns
+pub mod Dealing
