@@ -1,0 +1,5 @@
+pub mod Words
+pub mod Numbers
+pub mod Tasks
+pub mod Table
+pub mod Answers
