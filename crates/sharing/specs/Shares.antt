@@ -31,9 +31,13 @@ Lotted lot claims gifts = (k : ℕ) × ((i : ℕ) → i < length claims → (i �
 abbrev pub equally-long : List ℕ → List ℕ → Bool
 equally-long claims gifts = eqb (length claims) (length gifts)
 
+-- the one refusal
+abbrev pub unequal : Unequal
+unequal = record {}
+
 -- the answer of a method: it refuses just where claims and gifts are not equally long
 abbrev pub answer : List ℕ → List ℕ → Result (Unit {0}) Unequal
-answer claims gifts = cond (equally-long claims gifts) (Ok tt) (Err (record {}))
+answer claims gifts = cond (equally-long claims gifts) (Ok tt) (Err unequal)
 
 -- what the gifts hold then: the shares, and after a refusal what they held
 abbrev pub given : List ℕ → List ℕ → List ℕ → List ℕ
