@@ -1,6 +1,6 @@
 -- What a list holds, and what each change makes of it. Assumes nothing.
 use Rattle.std.specs.Prelude.{ℕ, ◌+◌, ◌-◌, min, Bool, List, ◌++◌, length, take, drop, nat_le, slice_set}
-use Rattle.std.specs.Borrow.{Bor}
+use Rattle.std.specs.Borrow.{MutBor}
 use Rattle.std.specs.List.{remove}
 use Rattle.list.specs.declared.List.{List as Held}
 use Rattle.list.specs.declared.Full.{Full}
@@ -38,7 +38,7 @@ abbrev pub holding : {T : Type 0} → Held T → List T → ℕ → Held T
 holding l xs n = record { places = record { ref_ptr = l.places.ref_ptr; ghost_name = l.places.ghost_name; now = xs }; count = n }
 
 -- an empty list over lent places, which keep what they hold
-abbrev pub opened : {T : Type 0} → Bor (List T) → Held T
+abbrev pub opened : {T : Type 0} → MutBor (List T) → Held T
 opened lent = record { places = lent; count = 0 }
 
 -- an element more, in the first place that is free; no other place changes

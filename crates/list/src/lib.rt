@@ -1,4 +1,6 @@
 // A list over places that its owner lends: elements in order of arrival, and no memory of its own.
+#![tactic(auto)]
+
 ghost use Rattle.std.specs.Prelude.{◌≡◌, ltb, [], ◌∷◌, ◌++◌, length, is_some, if◌then◌else◌, Ok, Err, nat_lt, slice_set};
 ghost use Rattle.std.specs.List.{slice_get, remove};
 ghost use Rattle.std.specs.Option.{ok_or};

@@ -18,7 +18,7 @@ fn numbers(rt: HostRuntime) {
     assert_eq!(rt; list.push(7), Err(Full));
     assert_eq!(rt; list.remove(0), Ok(5));
     assert_eq!(rt; list.push(8), Ok(()));
-    assert!(rt; list.elements() == [6, 8]);
+    assert!(rt; list.elements() == [6, 8].as_slice());
 }
 
 #[test]

@@ -31,7 +31,7 @@ module _ {cs begun gs : List ℕ} {before place left : ℕ} (amid : Amid cs begu
       let fits = each_set _ cs gs (fits_from cs gs amid.paired amid.within) place v (omega arith) in
       record {
         paired = length-set gs place v ∙ amid.paired;
-        within = each_at _ cs (set gs place v) 0 0 fits;
+        within = each_at _ cs (set gs place v) fits;
         fewer = omega arith;
         sums = omega (arith, total_set gs place v (omega arith));
         ends = round_end_more cs gs place left shares there amid.paired is ∙ amid.ends;
@@ -68,7 +68,7 @@ none_given amount cs gs e =
     subst (Between amount cs amount) (sym e) (
     record {
       paired = each_length _ cs (replicate (length cs) 0) (zero_fits cs);
-      within = each_at _ cs (replicate (length cs) 0) 0 0 (zero_fits cs);
+      within = each_at _ cs (replicate (length cs) 0) (zero_fits cs);
       sums = omega (arith, total_zero (length cs));
       ends = refl;
     }

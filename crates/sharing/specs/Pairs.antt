@@ -1,22 +1,28 @@
 -- Claims and gifts side by side. Assumes nothing.
-use Rattle.std.specs.Prelude.{◌≡◌, ℕ, zero, suc, ◌+◌, ◌<◌, ◌≤◌, List, [], ◌∷◌, length, drop, replicate, slice_index, slice_index_or, slice_set, refl}
+use Rattle.std.specs.Prelude.{◌≡◌, ℕ, zero, suc, ◌+◌, ◌<◌, ◌≤◌, List, [], ◌∷◌, length, drop, replicate, slice_index, slice_set, refl}
 use Rattle.std.proofs.Common.{ap, arith}
-use Rattle.sharing.specs.Shares.{total, Each, Within}
+use Rattle.sharing.specs.Shares.{total, Within}
 
-module _ {A B : Type 0} (P : A → B → Type 0) where
-  pub each_length : (xs : List A) (ys : List B) → Each P xs ys → length ys ≡ length xs
-  each_length [] [] e = refl
-  each_length [] (y ∷ ys) e = absurd e
-  each_length (x ∷ xs) [] e = absurd e
-  each_length (x ∷ xs) (y ∷ ys) e = ap suc (each_length xs ys e.1)
-
-  pub each_at : (xs : List A) (ys : List B) (x : A) (y : B) → Each P xs ys → (i : ℕ) → i < length xs → P (slice_index_or xs i x) (slice_index_or ys i y)
-  each_at [] ys x y e i h = absurd (omega arith)
-  each_at (a ∷ xs) [] x y e i h = absurd e
-  each_at (a ∷ xs) (b ∷ ys) x y e zero h = e.0
-  each_at (a ∷ xs) (b ∷ ys) x y e (suc i) h = each_at xs ys x y e.1 i (omega arith)
+-- there are as many gifts as claims, and P holds of each claim and its gift
+abbrev pub Each : (ℕ → ℕ → Type 0) → List ℕ → List ℕ → Type 0
+Each P [] [] = Unit {0}
+Each P [] (g ∷ gs) = ⊥
+Each P (c ∷ cs) [] = ⊥
+Each P (c ∷ cs) (g ∷ gs) = P c g × Each P cs gs
 
 module _ (P : ℕ → ℕ → Type 0) where
+  pub each_length : (cs gs : List ℕ) → Each P cs gs → length gs ≡ length cs
+  each_length [] [] e = refl
+  each_length [] (g ∷ gs) e = absurd e
+  each_length (c ∷ cs) [] e = absurd e
+  each_length (c ∷ cs) (g ∷ gs) e = ap suc (each_length cs gs e.1)
+
+  pub each_at : (cs gs : List ℕ) → Each P cs gs → (i : ℕ) → i < length cs → P (slice_index cs i) (slice_index gs i)
+  each_at [] gs e i h = absurd (omega arith)
+  each_at (c ∷ cs) [] e i h = absurd e
+  each_at (c ∷ cs) (g ∷ gs) e zero h = e.0
+  each_at (c ∷ cs) (g ∷ gs) e (suc i) h = each_at cs gs e.1 i (omega arith)
+
   pub each_set : (cs gs : List ℕ) → Each P cs gs → (i v : ℕ) → P (slice_index cs i) v → Each P cs (slice_set gs i v)
   each_set [] [] e i v h = tt
   each_set [] (g ∷ gs) e i v h = absurd e

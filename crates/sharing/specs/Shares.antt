@@ -7,13 +7,6 @@ abbrev pub total : List ℕ → ℕ
 total [] = 0
 total (x ∷ xs) = x + total xs
 
--- one list is as long as the other, and P holds of each element and its like
-abbrev pub Each : {A B : Type 0} → (A → B → Type 0) → List A → List B → Type 0
-Each P [] [] = Unit {0}
-Each P [] (y ∷ ys) = ⊥
-Each P (x ∷ xs) [] = ⊥
-Each P (x ∷ xs) (y ∷ ys) = P x y × Each P xs ys
-
 -- no gift exceeds its claim
 abbrev pub Within : List ℕ → List ℕ → Type 0
 Within claims gifts = (i : ℕ) → i < length claims → slice_index gifts i ≤ slice_index claims i

@@ -2,9 +2,9 @@
 use Rattle.std.specs.Prelude.{◌≡◌, ℕ, zero, suc, ◌+◌, ◌-◌, ◌%◌, ◌<◌, ◌≤◌, min, ◌⊎◌, List, [], ◌∷◌, length, replicate, ◌≢◌, slice_index, refl}
 use Rattle.std.proofs.Common.{sym, ap, subst, ◌∙◌, inl, inr, arith}
 use Rattle.std.proofs.lemmas.Bool.{cases_lt}
-use Rattle.sharing.specs.Shares.{total, Each, Within, InLots, Lotted}
+use Rattle.sharing.specs.Shares.{total, Within, InLots, Lotted}
 use Rattle.sharing.specs.Turns.{turn, round, rounds, turns, Level}
-use Rattle.sharing.specs.Pairs.{each_length, each_at, each_zero, Fits, fits_total, total_zero}
+use Rattle.sharing.specs.Pairs.{Each, each_length, each_at, each_zero, Fits, fits_total, total_zero}
 
 -- One round.
 
@@ -166,7 +166,7 @@ pub turns_paired : (amount : ℕ) (cs : List ℕ) → length (turns amount cs) �
 turns_paired amount cs = each_length _ cs (turns amount cs) (turns_fits amount cs)
 
 pub turns_within : (amount : ℕ) (cs : List ℕ) → Within cs (turns amount cs)
-turns_within amount cs = each_at _ cs (turns amount cs) 0 0 (turns_fits amount cs)
+turns_within amount cs = each_at _ cs (turns amount cs) (turns_fits amount cs)
 
 pub turns_spends : (amount : ℕ) (cs : List ℕ) → total (turns amount cs) ≡ min amount (total cs)
 turns_spends amount cs =
@@ -195,7 +195,7 @@ lotted_first c g level cs gs even flat = (0, at)
   where
     at : (i : ℕ) → i < length (c ∷ cs) → (i ≢ 0) → InLots 100 (slice_index (c ∷ cs) i) (slice_index (g ∷ gs) i)
     at zero h other = absurd (other refl)
-    at (suc i) h other = least_lotted (slice_index cs i) (slice_index gs i) level even (each_at _ cs gs 0 0 flat i (omega arith))
+    at (suc i) h other = least_lotted (slice_index cs i) (slice_index gs i) level even (each_at _ cs gs flat i (omega arith))
 
 dealt_lotted : (level : ℕ) (cs gs : List ℕ) → level % 100 ≡ 0 → Dealt level cs gs → Lotted 100 cs gs
 dealt_lotted level [] gs even d = (0, λ i h other. absurd (omega arith))
@@ -227,5 +227,5 @@ dealt_banded level (c ∷ cs) (g ∷ gs) (inr d) = ((d.0, d.1), flat_banded leve
 pub turns_level : (amount : ℕ) (cs : List ℕ) → Level cs (turns amount cs)
 turns_level amount cs i j i_there j_there short =
     let dealt = turns_dealt amount cs in
-    let band = each_at _ cs (turns amount cs) 0 0 (dealt_banded dealt.0 cs (turns amount cs) dealt.2) in
+    let band = each_at _ cs (turns amount cs) (dealt_banded dealt.0 cs (turns amount cs) dealt.2) in
     omega (arith, band i i_there, band j j_there)

@@ -1,4 +1,6 @@
 // Methods of sharing an amount among claims, and what each of them owes.
+#![tactic(auto)]
+
 ghost use Rattle.std.specs.Prelude.{◌≡◌, ℕ, ◌≤◌, min, List, length};
 ghost use Rattle.sharing.specs.Shares.{total, Within, Lotted, answer, given};
 

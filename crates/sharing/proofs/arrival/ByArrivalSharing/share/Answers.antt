@@ -13,5 +13,5 @@ returns c =
     record {
       value = sym (cond-true _ _ _ same);
       after = done ∙ sym (cond-true _ _ _ same);
-      first-come = subst (FirstCome cs) (sym done) (arrival_first_come amount cs);
+      first_come = subst (FirstCome cs) (sym done) (arrival_first_come amount cs);
     }
