@@ -13,8 +13,8 @@ use Rattle.order.specs.declared.sale.Sale.{Sale}
 use Rattle.order.specs.Classes.{rank_of, class_of}
 use Rattle.order.specs.Kinds.{is_size, priced, marks}
 use Rattle.order.specs.Rows.{sound, refilled}
-use Rattle.sharing.specs.Shares.{total, Each, Within}
-use Rattle.sharing.specs.Pairs.{each_length}
+use Rattle.sharing.specs.Shares.{total, Within}
+use Rattle.book.specs.Each.{Each}
 use Rattle.book.specs.declared.entry.Entry.{Entry}
 use Rattle.book.specs.declared.fills.FillFault.TheVariants.{NoPlace, Unfillable}
 use Rattle.book.specs.declared.sides.Cut.{Cut}
@@ -28,6 +28,7 @@ use Rattle.book.specs.Plans.{cut_of, planned, cut_for, part_in, asked_by, claim_
 use Rattle.book.specs.Theorem.{Filled}
 use Rattle.book.specs.Volume.{traded, unfillable}
 use Rattle.book.specs.Weight.{among, open_to, eligible}
+use Rattle.book.proofs.Pairs.{each_length}
 use Rattle.book.proofs.Stands.{stands, divided_by}
 use Rattle.book.proofs.Writing.{length_kept}
 

@@ -1,16 +1,29 @@
 -- Entries beside their shares, and sums over them. Assumes nothing.
-use Rattle.std.proofs.Common.{◌≡◌, ℕ, ◌+◌, ◌<◌, ◌≤◌, Bool, true, cond, not, ◌&&◌, ◌⊎◌, List, [], ◌∷◌, map, refl, inl, arith}
+use Rattle.std.proofs.Common.{◌≡◌, ℕ, ◌+◌, ◌<◌, ◌≤◌, Bool, true, cond, not, ◌&&◌, ◌⊎◌, List, [], ◌∷◌, length, map, slice_index_or, zero, suc, refl, ap, inl, arith}
 use Rattle.std.proofs.lemmas.Bool.{false≢true}
-use Rattle.sharing.specs.Shares.{total, Each}
+use Rattle.sharing.specs.Shares.{total, Within}
 use Rattle.order.specs.declared.kind.Side.{Side}
 use Rattle.order.specs.declared.kind.Side.TheVariants.{Buy, Sell}
 use Rattle.order.specs.Kinds.{is}
 use Rattle.book.specs.declared.entry.Entry.{Entry}
+use Rattle.book.specs.Each.{Each}
 use Rattle.book.specs.Weight.{sizes}
 use Rattle.book.specs.Assignment.{shares, side_shares}
 use Rattle.book.specs.Fill.{beside}
 
 module _ {A B : Type 0} (P : A → B → Type 0) where
+  pub each_length : (xs : List A) (ys : List B) → Each P xs ys → length ys ≡ length xs
+  each_length [] [] e = refl
+  each_length [] (y ∷ ys) e = absurd e
+  each_length (x ∷ xs) [] e = absurd e
+  each_length (x ∷ xs) (y ∷ ys) e = ap suc (each_length xs ys e.1)
+
+  pub each_at : (xs : List A) (ys : List B) (x : A) (y : B) → Each P xs ys → (i : ℕ) → i < length xs → P (slice_index_or xs i x) (slice_index_or ys i y)
+  each_at [] ys x y e i h = absurd (omega arith)
+  each_at (a ∷ xs) [] x y e i h = absurd e
+  each_at (a ∷ xs) (b ∷ ys) x y e zero h = e.0
+  each_at (a ∷ xs) (b ∷ ys) x y e (suc i) h = each_at xs ys x y e.1 i (omega arith)
+
   pub each_map : (Q : A → B → Type 0) → ((x : A) (y : B) → P x y → Q x y) → (xs : List A) (ys : List B) → Each P xs ys → Each Q xs ys
   each_map Q f [] [] h = tt
   each_map Q f [] (y ∷ ys) h = h
@@ -33,6 +46,13 @@ module _ {A B : Type 0} (P : A → B → Type 0) where
   pub each_made : (f : A → B) → ((x : A) → P x (f x)) → (xs : List A) → Each P xs (map f xs)
   each_made f h [] = tt
   each_made f h (x ∷ xs) = (h x, each_made f h xs)
+
+-- as many gifts as claims, and none above its claim
+pub each_within : (cs gs : List ℕ) → length gs ≡ length cs → Within cs gs → Each (λ c g. g ≤ c) cs gs
+each_within [] [] same h = tt
+each_within [] (g ∷ gs) same h = absurd (omega arith)
+each_within (c ∷ cs) [] same h = absurd (omega arith)
+each_within (c ∷ cs) (g ∷ gs) same h = (h 0 (omega arith), each_within cs gs (omega arith) (λ i there. h (suc i) (omega arith)))
 
 pub each_gifts : (P : Entry → ℕ → Type 0) (f : Entry → ℕ → ℕ) (es : List Entry) (gs : List ℕ) → Each (λ e g. P e (f e g)) es gs → Each P es (beside f es gs)
 each_gifts P f [] gs h = tt

@@ -2,9 +2,9 @@
 use Rattle.std.proofs.Common.{◌≡◌, ℕ, ◌+◌, ◌<◌, ◌≤◌, min, true, false, cond, ◌&&◌, ◌||◌, ltb, ◌⊎◌, List, length, sym, ap, ◌∙◌, inl, inr, arith}
 use Rattle.std.proofs.lemmas.Bool.{cases_lt, and_parts, or_parts, ltb-false}
 use Rattle.std.proofs.lemmas.Bool.Decides.{nat_tests}
-use Rattle.sharing.specs.Shares.{total, Each, Within}
+use Rattle.sharing.specs.Shares.{total, Within}
+use Rattle.book.specs.Each.{Each}
 use Rattle.sharing.specs.Arrival.{arrival}
-use Rattle.sharing.specs.Pairs.{fits_from}
 use Rattle.sharing.specs.ArrivalLaws.{arrival_paired, arrival_within, arrival_spends}
 use Rattle.order.specs.declared.kind.Side.{Side}
 use Rattle.order.specs.declared.kind.Side.TheVariants.{Buy, Sell}
@@ -15,7 +15,7 @@ use Rattle.book.specs.Volume.{traded, unfillable}
 use Rattle.book.specs.Assignment.{side_shares, Assignment, InOrder}
 use Rattle.book.specs.Fill.{filled_whole, left_over, part_of, claim_in, share_in, asked, claims_of, fills_of}
 use Rattle.book.specs.Theorem.{NoAssignment, Largest, Filled}
-use Rattle.book.proofs.Pairs.{each_map, each_from, each_made, each_gifts, same_side, shares_whole, shares_none, shares_split, shares_gifts, shares_both}
+use Rattle.book.proofs.Pairs.{each_map, each_from, each_within, each_made, each_gifts, same_side, shares_whole, shares_none, shares_split, shares_gifts, shares_both}
 use Rattle.book.proofs.Whole.{musts_open, one_more, whole_open, whole_most, whole_left, left_open, left_short, one_left}
 use Rattle.book.proofs.Parts.{claim_none, claim_whole, share_is, share_within, share_none, share_whole, share_before}
 use Rattle.book.proofs.Pinning.{trades_most, musts_fit, class_pins, one_cut}
@@ -107,7 +107,7 @@ module _ (es : List Entry) (gs : List ℕ) (divided : Divided (asked es) (claims
       fit Sell = ltb-false _ _ (or_parts _ _ fillable).1
 
 pub divided_by : (a : ℕ) (cs gs : List ℕ) → length gs ≡ length cs → Within cs gs → total gs ≡ min a (total cs) → Divided a cs gs
-divided_by a cs gs paired within spent = record { within = fits_from cs gs paired within; spent = spent }
+divided_by a cs gs paired within spent = record { within = each_within cs gs paired within; spent = spent }
 
 -- shared by arrival
 pub largest : (es : List Entry) → unfillable es ≡ false → Largest es (traded es)

@@ -4,9 +4,9 @@ use Rattle.std.proofs.lemmas.List.{drop_more, drop_all, set_at, map_more, append
 use Rattle.std.proofs.lemmas.Bool.{lt-ltb}
 use Rattle.list.specs.declared.List.{List as Held}
 use Rattle.list.specs.Held.{contents, held, kept, holding, written}
-use Rattle.sharing.specs.Shares.{Each, Within}
-use Rattle.sharing.specs.Pairs.{each_at, each_length, fits_from}
-use Rattle.book.proofs.Pairs.{each_from}
+use Rattle.sharing.specs.Shares.{Within}
+use Rattle.book.specs.Each.{Each}
+use Rattle.book.proofs.Pairs.{each_at, each_from, each_length, each_within}
 use Rattle.book.specs.Fill.{beside}
 
 pub length_kept : {T : Type 0} (l : Held T) → length (kept l) ≡ held l
@@ -103,4 +103,4 @@ module _ {X : Type 0} (f : X → ℕ → X) where
 -- gifts within the claims of a list's elements
 pub within_claims : {X : Type 0} (claim : X → ℕ) (xs : List X) (claims gifts : List ℕ) → claims ≡ map claim xs → length gifts ≡ length claims → Within claims gifts → Each (λ x g. g ≤ claim x) xs gifts
 within_claims claim xs claims gifts e paired within =
-    each_from (λ c g. g ≤ c) claim xs gifts (subst (λ (cs : List ℕ). Each (λ c g. g ≤ c) cs gifts) e (fits_from claims gifts paired within))
+    each_from (λ c g. g ≤ c) claim xs gifts (subst (λ (cs : List ℕ). Each (λ c g. g ≤ c) cs gifts) e (each_within claims gifts paired within))

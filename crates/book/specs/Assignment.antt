@@ -1,6 +1,6 @@
 -- Assignments of shares to the orders of a list at a price. Assumes nothing.
 use Rattle.std.specs.Prelude.{◌≡◌, ℕ, ◌+◌, ◌<◌, ◌≤◌, Bool, true, false, cond, ◌&&◌, List, [], ◌∷◌, Some, None, Option}
-use Rattle.sharing.specs.Shares.{Each}
+use Rattle.book.specs.Each.{Each}
 use Rattle.order.specs.declared.kind.Side.{Side}
 use Rattle.order.specs.declared.kind.Side.TheVariants.{Buy, Sell}
 use Rattle.order.specs.Kinds.{is}

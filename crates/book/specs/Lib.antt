@@ -1,3 +1,4 @@
+pub mod Each
 pub mod Entries
 pub mod Weight
 pub mod Volume

@@ -1,7 +1,7 @@
 // The shares of each order at a price.
 ghost use Rattle.std.specs.Prelude.{◌≡◌, ◌≤◌, false, ◌++◌, map, length, drop, Ok};
 ghost use Rattle.list.specs.Held.{contents, held, kept, holding};
-ghost use Rattle.sharing.specs.Shares.{Each};
+ghost use Rattle.book.specs.Each.{Each};
 ghost use Rattle.book.specs.declared.fills.FillFault.TheVariants.{Unfillable as ForUnfillable, Unequal as ForUnequal};
 ghost use Rattle.book.specs.Answers.{question_of, gifts_of, list_after, fill_answer, claims_after, gifts_after, rows_after, given_in, Upheld};
 ghost use Rattle.book.specs.Entries.{entered, orders_at};
@@ -73,8 +73,8 @@ pub fn fill<S: Sharing>(
 ) -> Result<u64, FillFault>
     ensures value { result ≡ fill_answer rows.old price sale claims.old gifts.old }
     ensures claims { claims.new ≡ claims_after rows.old price sale claims.old gifts.old }
-    ensures gifts { gifts.new ≡ gifts_after rows.old price sale claims.old gifts.old (meaning method.now) }
-    ensures after { rows.new ≡ rows_after rows.old price sale claims.old gifts.old (meaning method.now) }
+    ensures gifts { gifts.new ≡ gifts_after rows.old price sale claims.old gifts.old (S.meaning method.now) }
+    ensures after { rows.new ≡ rows_after rows.old price sale claims.old gifts.old (S.meaning method.now) }
     ensures upheld { Upheld (orders_at rows.old price sale) (given_in rows.new) result }
 {
     let count = rows.len();
@@ -144,8 +144,8 @@ fn share_out<S: Sharing>(
     requires fillable { unfillable (orders_at rows.old price sale) ≡ false }
     ensures value { result ≡ Ok tt }
     ensures claims { claims.new ≡ claims_of (orders_at rows.old price sale) }
-    ensures gifts { gifts.new ≡ gifts_of (meaning method.now) (orders_at rows.old price sale) }
-    ensures after { rows.new ≡ list_after rows.old (fills_of (orders_at rows.old price sale) (gifts_of (meaning method.now) (orders_at rows.old price sale))) }
+    ensures gifts { gifts.new ≡ gifts_of (S.meaning method.now) (orders_at rows.old price sale) }
+    ensures after { rows.new ≡ list_after rows.old (fills_of (orders_at rows.old price sale) (gifts_of (S.meaning method.now) (orders_at rows.old price sale))) }
     ensures filled { Filled (orders_at rows.old price sale) (given_in rows.new) (traded (orders_at rows.old price sale)) }
 {
     write_claims(rows, price, sale, plan, claims);

@@ -1,4 +1,6 @@
 // What the rule says of a list of orders at a price.
+#![tactic(auto)]
+
 mod entry;
 mod fills;
 mod imbalance;

@@ -1,4 +1,6 @@
 // What the rule says of one order: its kind, how it stands to a price, and its class there.
+#![tactic(auto)]
+
 mod class;
 mod kind;
 mod limit;

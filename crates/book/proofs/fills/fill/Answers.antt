@@ -14,13 +14,13 @@ returns g c =
     let l = c.args.rows.now in
     let es = orders_at l c.args.price c.args.sale in
     let count : c.len-count.result ≡ held l = c.len-count.ensures.value in
-    let found = plan_is es c.in-ok-plan.plan c.in-ok-plan.ensures.value in
+    let found = plan_is es c.in_ok-plan.plan c.in_ok-plan.ensures.value in
     let room : roomy l c.args.claims.now c.args.gifts.now ≡ true = room_for l c.args.claims.now c.args.gifts.now c.len-count.result count c.if-claims-count.false c.if-gifts-count.false in
     let all : fillable l c.args.price c.args.sale c.args.claims.now c.args.gifts.now ≡ true = and_from _ _ room (ap not found.0) in
     record {
-      value = answer_found l c.args.price c.args.sale c.args.claims.now c.args.gifts.now c.in-ok-plan.plan room found.0 found.1;
-      claims = work_written l _ _ c.args.claims.now c.len-count.result c.share-out.ensures.claims count ∙ sym (cond-true _ _ _ all);
-      gifts = work_written l _ _ c.args.gifts.now c.len-count.result c.share-out.ensures.gifts count ∙ sym (cond-true _ _ _ all);
-      after = c.share-out.ensures.after ∙ sym (cond-true _ _ _ all);
-      upheld = subst (Filled es (given_in c.share-out.new.rows)) (sym (ap (λ (q : Plan). q.volume) found.1)) c.share-out.ensures.filled;
+      value = answer_found l c.args.price c.args.sale c.args.claims.now c.args.gifts.now c.in_ok-plan.plan room found.0 found.1;
+      claims = work_written l _ _ c.args.claims.now c.len-count.result c.share_out.ensures.claims count ∙ sym (cond-true _ _ _ all);
+      gifts = work_written l _ _ c.args.gifts.now c.len-count.result c.share_out.ensures.gifts count ∙ sym (cond-true _ _ _ all);
+      after = c.share_out.ensures.after ∙ sym (cond-true _ _ _ all);
+      upheld = subst (Filled es (given_in c.share_out.new.rows)) (sym (ap (λ (q : Plan). q.volume) found.1)) c.share_out.ensures.filled;
     }

@@ -30,15 +30,15 @@ bounds-elements-place c =
 pub bounds-gifts-place : goal.bounds-gifts-place
 bounds-gifts-place c = writing.numbered (f c.args.plan.now c.args.price c.args.sale) c.args.rows.now c.args.gifts.now (W c.args.plan.now c.args.price c.args.sale) c.requires c.loop-place.place c.loop-place.rows c.loop-place.invariant (omega (arith, c.len-place-end.ensures.value))
 
-pub filled-row-requires : goal.filled-row-requires
-filled-row-requires c =
+pub filled_row-requires : goal.filled_row-requires
+filled_row-requires c =
     writing.holds_there (f c.args.plan.now c.args.price c.args.sale) c.args.rows.now c.args.gifts.now (W c.args.plan.now c.args.price c.args.sale) c.requires c.loop-place.place c.loop-place.rows c.loop-place.invariant (omega (arith, c.len-place-end.ensures.value))
     c.elements.result.now _ _ c.elements.ensures.value
 
 pub loop-place-preserved : goal.loop-place-preserved
 loop-place-preserved c =
     writing.half_more (f c.args.plan.now c.args.price c.args.sale) c.args.rows.now c.args.gifts.now (W c.args.plan.now c.args.price c.args.sale) c.requires c.loop-place.place c.loop-place.rows c.loop-place.invariant (omega (arith, c.len-place-end.ensures.value))
-    c.put.new.self c.elements.result.now _ _ c.filled-row.result c.elements.ensures.value c.filled-row.ensures.value c.put.ensures.after
+    c.put.new.self c.elements.result.now _ _ c.filled_row.result c.elements.ensures.value c.filled_row.ensures.value c.put.ensures.after
 
 pub returns : goal.returns
 returns c =

@@ -8,17 +8,17 @@ pub returns-then-exceeds : goal.returns-then-exceeds
 returns-then-exceeds c =
     record {
       value = λ es b s.
-          let whole : c.volume-of-volume.result ≡ traded es =
-          volume_is es _ _ _ _ _ c.volume-of-volume.ensures.value (c.weight.ensures.value es Buy b) (c.weight-2.ensures.value es Sell s) (c.offsets.ensures.value es Buy b) (c.offsets-2.ensures.value es Sell s) in
-          plan_refused es (sym (exceeds_is es _ _ _ _ c.exceeds.ensures.value whole (c.must-execute.ensures.value es Buy b) (c.must-execute-2.ensures.value es Sell s)) ∙ c.if-exceeds.true);
+          let whole : c.volume_of-volume.result ≡ traded es =
+          volume_is es _ _ _ _ _ c.volume_of-volume.ensures.value (c.weight.ensures.value es Buy b) (c.weight-2.ensures.value es Sell s) (c.offsets.ensures.value es Buy b) (c.offsets-2.ensures.value es Sell s) in
+          plan_refused es (sym (exceeds_is es _ _ _ _ c.exceeds.ensures.value whole (c.must_execute.ensures.value es Buy b) (c.must_execute-2.ensures.value es Sell s)) ∙ c.if-exceeds.true);
     }
 
 pub returns : goal.returns
 returns c =
     record {
       value = λ es b s.
-          let whole : c.volume-of-volume.result ≡ traded es =
-          volume_is es _ _ _ _ _ c.volume-of-volume.ensures.value (c.weight.ensures.value es Buy b) (c.weight-2.ensures.value es Sell s) (c.offsets.ensures.value es Buy b) (c.offsets-2.ensures.value es Sell s) in
-          plan_found es (sym (exceeds_is es _ _ _ _ c.exceeds.ensures.value whole (c.must-execute.ensures.value es Buy b) (c.must-execute-2.ensures.value es Sell s)) ∙ c.if-exceeds.false)
+          let whole : c.volume_of-volume.result ≡ traded es =
+          volume_is es _ _ _ _ _ c.volume_of-volume.ensures.value (c.weight.ensures.value es Buy b) (c.weight-2.ensures.value es Sell s) (c.offsets.ensures.value es Buy b) (c.offsets-2.ensures.value es Sell s) in
+          plan_found es (sym (exceeds_is es _ _ _ _ c.exceeds.ensures.value whole (c.must_execute.ensures.value es Buy b) (c.must_execute-2.ensures.value es Sell s)) ∙ c.if-exceeds.false)
           _ _ _ whole (c.cut.ensures.value es Buy b whole) (c.cut-2.ensures.value es Sell s whole);
     }

@@ -8,13 +8,13 @@ loop-count-init c = ((λ es s t e. ap (fitting es s) t.opened), omega arith)
 
 pub loop-count-preserved : goal.loop-count-preserved
 loop-count-preserved c = (
-  fits_below c.loop-count.invariant.0 c.loop-count.invariant.1 c.loop-count-test.true c.sum-of-first.result c.sum-of-first.ensures.value c.if-sum-of-first-volume.false,
+  fits_below c.loop-count.invariant.0 c.loop-count.invariant.1 c.loop-count-test.true c.sum_of_first.result c.sum_of_first.ensures.value c.if-sum_of_first-volume.false,
   omega (arith, c.loop-count.invariant.1),
 )
 
-pub returns-then-sum-of-first-volume : goal.returns-then-sum-of-first-volume
-returns-then-sum-of-first-volume c =
+pub returns-then-sum_of_first-volume : goal.returns-then-sum_of_first-volume
+returns-then-sum_of_first-volume c =
     record {
-      value = fits_here c.loop-count.invariant.0 c.loop-count.invariant.1 c.loop-count-test.true c.sum-of-first.result c.sum-of-first.ensures.value c.if-sum-of-first-volume.true;
+      value = fits_here c.loop-count.invariant.0 c.loop-count.invariant.1 c.loop-count-test.true c.sum_of_first.result c.sum_of_first.ensures.value c.if-sum_of_first-volume.true;
       within = c.loop-count.invariant.1;
     }

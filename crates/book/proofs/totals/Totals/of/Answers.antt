@@ -15,7 +15,7 @@ loop-place-init c =
     }
 
 pub count-requires : goal.count-requires
-count-requires c lifetimes =
+count-requires c =
     record {
       few = λ k. omega (arith, c.loop-place.invariant.few k, c.elements-row-items.ensures.len);
       «open» = omega (arith, c.loop-place.invariant.same, c.requires.«open»);
