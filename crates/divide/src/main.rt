@@ -1,6 +1,9 @@
 // Divides an amount over claims, given as arguments or else on standard input, and prints the table.
+#![tactic(auto)]
+
 use division::{Fault, divided};
 use std::io::{Read, Write};
+use std::process::ExitCode;
 use std::{env, fmt, io};
 
 /// Why there is no table.
@@ -54,12 +57,14 @@ fn run(rt: &HostRuntime) -> Result<(), Trouble> {
     }
 }
 
-fn main(rt: HostRuntime) -> Result<(), Trouble> {
-    let done = run(&rt);
-    if let Err(trouble) = &done {
-        let _ = eprintln!(rt; "divide: {trouble}");
+fn main(rt: HostRuntime) -> ExitCode {
+    match run(&rt) {
+        Ok(()) => ExitCode::SUCCESS,
+        Err(trouble) => {
+            let _ = eprintln!(rt; "divide: {trouble}");
+            ExitCode::FAILURE
+        }
     }
-    done
 }
 
 #[cfg(test)]

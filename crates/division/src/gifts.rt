@@ -12,7 +12,7 @@ pub(crate) fn gifts_by<S: Sharing>(
     amount: u64,
     claims: &[u32],
 ) -> Result<Vec<u32>, AllocError>
-    ensures items { IfOk result (λ v. v.items ≡ meaning method.now amount claims.now) }
+    ensures items { IfOk result (λ v. v.items ≡ S.meaning method.now amount claims.now) }
     ensures len { IfOk result (λ v. vec_len v ≡ length claims.now) }
 {
     let mut gifts = vec![in heap; 0; claims.len()]?;

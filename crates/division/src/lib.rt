@@ -1,4 +1,6 @@
 // Divides an amount over claims, from the text that asks it to the table that answers.
+#![tactic(auto)]
+
 mod columns;
 mod gifts;
 mod reading;

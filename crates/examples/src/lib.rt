@@ -1,4 +1,6 @@
 // The worked examples of the rule: one table, and one proof that each of them holds.
+#![tactic(auto)]
+
 ghost use Rattle.std.specs.Prelude.{◌≡◌, length};
 ghost use Rattle.examples.specs.Examples.{AllHold};
 ghost use Rattle.examples.specs.Table.{table};

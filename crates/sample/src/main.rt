@@ -1,8 +1,11 @@
 // Prints a sample book at a price: each order's class there, and its shares by arrival and by turns.
+#![tactic(auto)]
+
 mod orders;
 mod table;
 
 use order::MAX_PRICE;
+use std::process::ExitCode;
 use std::{env, fmt, io};
 use table::print_table;
 
@@ -69,10 +72,12 @@ fn run(rt: &HostRuntime) -> Result<(), Trouble> {
     }
 }
 
-fn main(rt: HostRuntime) -> Result<(), Trouble> {
-    let done = run(&rt);
-    if let Err(trouble) = &done {
-        let _ = eprintln!(rt; "sample: {trouble}");
+fn main(rt: HostRuntime) -> ExitCode {
+    match run(&rt) {
+        Ok(()) => ExitCode::SUCCESS,
+        Err(trouble) => {
+            let _ = eprintln!(rt; "sample: {trouble}");
+            ExitCode::FAILURE
+        }
     }
-    done
 }

@@ -4,5 +4,5 @@ use Rattle.division.proofs.columns.table_by.Goals as goal
 pub returns : goal.returns
 returns c =
     table_whole c.args.claims.now c.args.arrival.now c.args.turns.now _ _ _ _ _ _ _ c.new-out.ensures.bytes
-    c.in-ok-write-line.ensures c.in-ok-write-rows.ensures c.in-ok-write-numbers.ensures
-    c.sum-of.ensures c.sum-of-2.ensures c.sum-of-3.ensures
+    c.in_ok-write_line.ensures c.in_ok-write_rows.ensures c.in_ok-write_numbers.ensures
+    c.sum_of.ensures c.sum_of-2.ensures c.sum_of-3.ensures

@@ -7,5 +7,5 @@ pub returns : goal.returns
 unfolding encode
 returns c =
     made_whole c.push.result _ (codes "\n") _ _ c.push.ensures.bytes
-    (line_whole _ _ _ _ _ _ _ _ _ c.in-ok-write-column.ensures c.in-ok-write-column-2.ensures
-    c.in-ok-write-column-3.ensures c.in-ok-write-column-4.ensures)
+    (line_whole _ _ _ _ _ _ _ _ _ c.in_ok-write_column.ensures c.in_ok-write_column-2.ensures
+    c.in_ok-write_column-3.ensures c.in_ok-write_column-4.ensures)

@@ -4,12 +4,12 @@ use Rattle.division.proofs.reading.first_word.Goals as goal
 
 pub returns : goal.returns
 returns c =
-    let gap = c.split-at.ensures in
-    let word = c.split-at-2.ensures in
+    let gap = c.split_at.ensures in
+    let word = c.split_at-2.ensures in
     record {
-      words = cut_first c.args.text.now c.split-at.result.1.now _ _
-          (gap.back ∙ ap (λ n. drop n c.args.text.now) c.run-len.ensures.value)
-          (word.front ∙ ap (λ n. take n c.split-at.result.1.now) c.run-len-2.ensures.value)
-          (word.back ∙ ap (λ n. drop n c.split-at.result.1.now) c.run-len-2.ensures.value);
-      bound = omega (arith, gap.back_len, word.front-len, word.back_len);
+      words = cut_first c.args.text.now c.split_at.result.1.now _ _
+          (gap.back ∙ ap (λ n. drop n c.args.text.now) c.run_len.ensures.value)
+          (word.front ∙ ap (λ n. take n c.split_at.result.1.now) c.run_len-2.ensures.value)
+          (word.back ∙ ap (λ n. drop n c.split_at.result.1.now) c.run_len-2.ensures.value);
+      bound = omega (arith, gap.back_len, word.front_len, word.back_len);
     }
