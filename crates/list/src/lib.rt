@@ -1,7 +1,7 @@
 // A list over places that its owner lends: elements in order of arrival, and no memory of its own.
 #![tactic(auto)]
 
-ghost use Rattle.std.specs.Prelude.{◌≡◌, ltb, [], ◌∷◌, ◌++◌, length, is_some, if◌then◌else◌, Ok, Err, nat_lt, slice_set};
+ghost use Rattle.std.specs.Prelude.{◌≡◌, [], ◌∷◌, ◌++◌, length, is_some, if◌then◌else◌, Ok, Err, nat_lt, slice_set};
 ghost use Rattle.std.specs.List.{slice_get, remove};
 ghost use Rattle.std.specs.Option.{ok_or};
 ghost use Rattle.list.specs.Held.{room, held, kept, full, no_place, no_element, opened, appended, written, without, emptied};
@@ -93,9 +93,9 @@ impl<'a, T: Copy> List<'a, T> {
 
     /// Writes the element at `place` back whole. Refuses, and changes nothing, when there is none.
     pub fn put(&mut self, place: usize, element: T) -> Result<(), Absent>
-        ensures value { result ≡ (if ltb place (held self.old) then Ok tt else Err no_element) }
-        ensures after { self.new ≡ (if ltb place (held self.old) then written self.old place element else self.old) }
-        ensures items { kept self.new ≡ (if ltb place (held self.old) then slice_set (kept self.old) place element else kept self.old) }
+        ensures value { result ≡ (if nat_lt place (held self.old) then Ok tt else Err no_element) }
+        ensures after { self.new ≡ (if nat_lt place (held self.old) then written self.old place element else self.old) }
+        ensures items { kept self.new ≡ (if nat_lt place (held self.old) then slice_set (kept self.old) place element else kept self.old) }
     {
         let held = self.len();
         if place >= held {
@@ -109,8 +109,8 @@ impl<'a, T: Copy> List<'a, T> {
     /// Refuses, and changes nothing, when there is no such element.
     pub fn remove(&mut self, place: usize) -> Result<T, Absent>
         ensures value { result ≡ ok_or (slice_get (kept self.old) place) no_element }
-        ensures after { self.new ≡ (if ltb place (held self.old) then without self.old place else self.old) }
-        ensures items { kept self.new ≡ (if ltb place (held self.old) then remove (kept self.old) place else kept self.old) }
+        ensures after { self.new ≡ (if nat_lt place (held self.old) then without self.old place else self.old) }
+        ensures items { kept self.new ≡ (if nat_lt place (held self.old) then remove (kept self.old) place else kept self.old) }
     {
         let Some(element) = self.get(place) else {
             return Err(Absent);
