@@ -1,5 +1,5 @@
 -- What a list holds, and what each change makes of it. Assumes nothing.
-use Rattle.std.specs.Prelude.{ℕ, ◌+◌, ◌-◌, min, Bool, List, ◌++◌, length, take, drop, nat_le, slice_set}
+use Rattle.std.specs.Prelude.{ℕ, ◌+◌, ◌-◌, min, Bool, List, ◌++◌, length, take, drop, nat_le, slice_set, codes}
 use Rattle.std.specs.Borrow.{MutBor}
 use Rattle.std.specs.List.{remove}
 use Rattle.list.specs.declared.List.{List as Held}
@@ -32,6 +32,13 @@ no_place = record {}
 
 abbrev pub no_element : Absent
 no_element = record {}
+
+-- what each of them prints
+abbrev pub no_place_text : List ℕ
+no_place_text = codes "no place is left"
+
+abbrev pub no_element_text : List ℕ
+no_element_text = codes "there is no element at that place"
 
 -- the same list with other contents of its places, and another count
 abbrev pub holding : {T : Type 0} → Held T → List T → ℕ → Held T

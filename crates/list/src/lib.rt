@@ -1,14 +1,16 @@
 // A list over places that its owner lends: elements in order of arrival, and no memory of its own.
 #![tactic(auto)]
 
-ghost use Rattle.std.specs.Prelude.{◌≡◌, [], ◌∷◌, ◌++◌, length, is_some, if◌then◌else◌, Ok, Err, nat_lt, slice_set};
+ghost use Rattle.std.specs.Prelude.{◌≡◌, [], ◌∷◌, ◌++◌, length, is_some, if◌then◌else◌, Some, Ok, Err, nat_lt, ◌==◌, slice_set};
 ghost use Rattle.std.specs.List.{slice_get, remove};
 ghost use Rattle.std.specs.Option.{ok_or};
-ghost use Rattle.list.specs.Held.{room, held, kept, full, no_place, no_element, opened, appended, written, without, emptied};
+ghost use Rattle.list.specs.Held.{room, held, kept, full, no_place, no_element, no_place_text, no_element_text, opened, appended, written, without, emptied};
 
 mod places;
 
-use places::{append, close_gap, read, replace};
+use places::close_gap;
+use std::error::Error;
+use std::fmt;
 
 /// The most elements that a list holds, however many places it is lent.
 pub const MOST: usize = 4096;
@@ -17,12 +19,35 @@ pub const MOST: usize = 4096;
 #[derive(Clone, Copy, PartialEq, Eq, Debug)]
 pub struct Full;
 
+// By hand: a derived text has no contract.
+impl fmt::Display for Full {
+    ghost output = { λ _. Some no_place_text };
+
+    fn fmt<W: fmt::Write>(&self, f: &mut fmt::Formatter<W>) -> fmt::Result {
+        write!(f, "no place is left")
+    }
+}
+
+impl Error for Full {}
+
 /// There is no element at that place.
 #[derive(Clone, Copy, PartialEq, Eq, Debug)]
 pub struct Absent;
 
+impl fmt::Display for Absent {
+    ghost output = { λ _. Some no_element_text };
+
+    fn fmt<W: fmt::Write>(&self, f: &mut fmt::Formatter<W>) -> fmt::Result {
+        write!(f, "there is no element at that place")
+    }
+}
+
+impl Error for Absent {}
+
 /// Elements in order of arrival, in places that are lent. Whatever its count says, a list holds no more elements than it has
 /// places, and at most 4,096.
+// A lent slice with a count, which `len` bounds (docs/DECISIONS.md, "Forms that are fixed"): of a type with an invariant no equation could say
+// the whole list after a call. No `Debug`, which would print places that hold no element.
 #[derive(Drop)]
 pub struct List<'a, T> {
     places: &'a mut [T],
@@ -43,6 +68,13 @@ impl<'a, T: Copy> List<'a, T> {
         ensures value { result ≡ held self.now }
     {
         self.count.min(self.capacity())
+    }
+
+    /// Whether the list holds no element.
+    pub fn is_empty(&self) -> bool
+        ensures value { result ≡ (held self.now == 0) }
+    {
+        self.len() == 0
     }
 
     /// How many elements the list can hold.
@@ -73,7 +105,7 @@ impl<'a, T: Copy> List<'a, T> {
         ensures value { result ≡ slice_get (kept self.now) place }
         ensures test { is_some result ≡ nat_lt place (held self.now) }
     {
-        read(self.elements(), place)
+        self.elements().get(place).copied()
     }
 
     /// Appends `element` at the end. Refuses, and changes nothing, when no place is left.
@@ -86,7 +118,7 @@ impl<'a, T: Copy> List<'a, T> {
             return Err(Full);
         }
         let held = self.len();
-        append(self.places, held, element);
+        self.places[held] = element;
         self.count = held + 1;
         Ok(())
     }
@@ -101,7 +133,7 @@ impl<'a, T: Copy> List<'a, T> {
         if place >= held {
             return Err(Absent);
         }
-        replace(self.places, held, place, element);
+        self.places[place] = element;
         Ok(())
     }
 
@@ -112,9 +144,7 @@ impl<'a, T: Copy> List<'a, T> {
         ensures after { self.new ≡ (if nat_lt place (held self.old) then without self.old place else self.old) }
         ensures items { kept self.new ≡ (if nat_lt place (held self.old) then remove (kept self.old) place else kept self.old) }
     {
-        let Some(element) = self.get(place) else {
-            return Err(Absent);
-        };
+        let element = self.get(place).ok_or(Absent)?;
         let held = self.len();
         close_gap(self.places, held, place);
         self.count = held - 1;

@@ -52,9 +52,9 @@ fn left_behind() -> [u32; 3]
     let mut places = [1, 2, 3];
     {
         let mut list = List::new(&mut places);
-        let _ = list.push(7);
-        let _ = list.push(8);
-        let _ = list.remove(0);
+        list.push(7).unwrap();
+        list.push(8).unwrap();
+        list.remove(0).unwrap();
     }
     places
 }
