@@ -1,61 +1,34 @@
 -- From turn to turn and from round to round. Assumes nothing.
-use Rattle.std.proofs.Common.{◌≡◌, ℕ, ◌+◌, ◌-◌, ◌<◌, ◌≤◌, ◌⊎◌, List, [], ◌∷◌, length, get_or, take, drop, set, replicate, sym, refl, ap, ◌∙◌, subst, inl, inr, add-zero, arith}
-use Rattle.std.proofs.lemmas.List.{append_assoc, append-nil, drop_all, drop_more, drop-set-lt, length-set, set-get_or, take_all, take-append-drop, take_more_set}
+use Rattle.std.proofs.Common.{◌≡◌, ℕ, ◌+◌, ◌-◌, ◌<◌, ◌≤◌, ◌⊎◌, List, length, get_or, drop, set, replicate, sym, ap, ◌∙◌, subst, inl, inr, arith}
+use Rattle.std.proofs.lemmas.Grind.{common_steps}
+use Rattle.std.proofs.lemmas.List.{length-set, take-append-drop}
 use Rattle.std.proofs.lemmas.Bool.{cases_lt}
 use Rattle.sharing.specs.Shares.{total}
-use Rattle.sharing.specs.Turns.{turn, round, turns}
-use Rattle.sharing.specs.Dealing.{turn_at, Between, Amid, round_end}
-use Rattle.sharing.specs.Pairs.{each_at, each_drop, each_length, each_set, fits_from, total_set, total_zero}
-use Rattle.sharing.specs.TurnsLaws.{Over, one_more, round_gives, round_over, rounds_over, zero_fits}
+use Rattle.sharing.specs.Turns.{round, turns}
+use Rattle.sharing.specs.Dealing.{turn_at, Between, Amid}
+use Rattle.sharing.specs.Pairs.{Fits, fits_from, total_set, total_zero}
+use Rattle.sharing.specs.TurnsLaws.{Over, one_more, round_gives, round_over, rounds_over}
 
 -- Within a round.
 
--- the next claimant takes its turn
-round_end_more : (cs gs : List ℕ) (place left shares : ℕ) → place < length cs → length gs ≡ length cs → shares ≡ turn_at place left cs gs → round_end (place + 1) (left - shares) cs (set gs place (get_or gs place 0 + shares)) ≡ round_end place left cs gs
-round_end_more cs gs place left shares there same is =
-    let c : ℕ = get_or cs place 0 in
-    let g : ℕ = get_or gs place 0 in
-    let claim = drop_more cs place 0 there in
-    let gift = drop_more gs place 0 (omega arith) in
-    let rest : round left (c ∷ drop (place + 1) cs) (g ∷ drop (place + 1) gs) ≡ (g + turn left c g) ∷ round (left - turn left c g) (drop (place + 1) cs) (drop (place + 1) gs) = refl in
-    let more = take_more_set gs place (g + shares) (omega arith) in
-    let kept = drop-set-lt (place + 1) gs place (g + shares) (omega arith) in
-    let join = append_assoc (take place gs) ((g + shares) ∷ []) (round (left - shares) (drop (place + 1) cs) (drop (place + 1) gs)) in
-    cc
-
 module _ {cs begun gs : List ℕ} {before place left : ℕ} (amid : Amid cs begun before place left gs) where
-  pub amid_more : (shares : ℕ) → place < length cs → shares ≡ turn_at place left cs gs → Amid cs begun before (place + 1) (left - shares) (set gs place (get_or gs place 0 + shares))
-  amid_more shares there is =
-      let v : ℕ = get_or gs place 0 + shares in
+  -- the next claimant takes its turn, which gives it the gift v and leaves the rest
+  pub amid_more : (rest v : ℕ) → place < length cs → rest ≡ left - turn_at place left cs gs → v ≡ get_or gs place 0 + turn_at place left cs gs → Amid cs begun before (place + 1) rest (set gs place v)
+  amid_more rest v there less more =
       let below = amid.within place there in
-      let fits = each_set _ cs gs (fits_from cs gs amid.paired amid.within) place v (omega arith) in
       record {
         paired = length-set gs place v ∙ amid.paired;
-        within = each_at _ cs (set gs place v) fits;
+        within = λ i h. grind (arith, common_steps, amid.within i h);
         fewer = omega arith;
         sums = omega (arith, total_set gs place v (omega arith));
-        ends = round_end_more cs gs place left shares there amid.paired is ∙ amid.ends;
+        ends = grind (arith, common_steps, amid.ends, amid.paired);
       }
-
-  -- a claimant that is not short takes nothing
-  pub amid_passed : place < length cs → get_or cs place 0 ≤ get_or gs place 0 → Amid cs begun before (place + 1) left gs
-  amid_passed there full =
-      let after = amid_more 0 there (omega arith) in
-      let same : set gs place (get_or gs place 0 + 0) ≡ gs = rw add-zero (set-get_or gs place 0) in
-      let all : left - 0 ≡ left = omega arith in
-      subst (λ (n : ℕ). Amid cs begun before (place + 1) n gs) all (subst (Amid cs begun before (place + 1) (left - 0)) same after)
 
   -- a round is complete when every claimant has had its turn, or nothing is left
   complete : (length cs ≤ place) ⊎ (left ≡ 0) → gs ≡ round before cs begun
-  complete (inl past) =
-      let none = drop_all place cs past in
-      let all = take_all place gs (omega (arith, amid.paired)) in
-      let nil : round left [] (drop place gs) ≡ [] = refl in
-      let join = append-nil gs in
-      let ends = amid.ends in
-      cc
+  complete (inl past) = grind (arith, common_steps, amid.ends, amid.paired)
   complete (inr spent) =
-      let fits = each_drop _ cs gs (fits_from cs gs amid.paired amid.within) place in
+      let fits : Fits (drop place cs) (drop place gs) = fits_from (drop place cs) (drop place gs) (grind (arith, common_steps, amid.paired)) (λ i h. grind (arith, common_steps, amid.within (place + i))) in
       let stays = round_over left (drop place cs) (drop place gs) fits (inl spent) in
       let join = take-append-drop place gs in
       let ends = amid.ends in
@@ -63,16 +36,13 @@ module _ {cs begun gs : List ℕ} {before place left : ℕ} (amid : Amid cs begu
 
 -- Between two rounds.
 
-pub none_given : (amount : ℕ) (cs gs : List ℕ) → gs ≡ replicate (length cs) 0 → Between amount cs amount gs
-none_given amount cs gs e =
-    subst (Between amount cs amount) (sym e) (
-    record {
-      paired = each_length _ cs (replicate (length cs) 0) (zero_fits cs);
-      within = each_at _ cs (replicate (length cs) 0) (zero_fits cs);
-      sums = omega (arith, total_zero (length cs));
-      ends = refl;
-    }
-    )
+pub none_given : (amount n : ℕ) (cs gs : List ℕ) → n ≡ length cs → gs ≡ replicate n 0 → Between amount cs amount gs
+none_given amount n cs gs same e = record {
+  paired = grind (arith, common_steps);
+  within = λ i h. grind (arith, common_steps);
+  sums = grind (arith, total_zero n);
+  ends = cc;
+}
 
 -- the division is over
 over : {amount left : ℕ} {cs gs : List ℕ} → Between amount cs left gs → Over left cs gs → gs ≡ turns amount cs

@@ -1,49 +1,31 @@
 -- Claims and gifts side by side. Assumes nothing.
 use Rattle.std.specs.Prelude.{◌≡◌, ℕ, zero, suc, ◌+◌, ◌<◌, ◌≤◌, List, [], ◌∷◌, length, drop, replicate, slice_index, slice_set, refl}
-use Rattle.std.proofs.Common.{ap, arith}
+use Rattle.std.specs.List.{AllZip}
+use Rattle.std.proofs.Common.{arith}
 use Rattle.sharing.specs.Shares.{total, Within}
 
--- there are as many gifts as claims, and P holds of each claim and its gift
-abbrev pub Each : (ℕ → ℕ → Type 0) → List ℕ → List ℕ → Type 0
-Each P [] [] = Unit {0}
-Each P [] (g ∷ gs) = ⊥
-Each P (c ∷ cs) [] = ⊥
-Each P (c ∷ cs) (g ∷ gs) = P c g × Each P cs gs
-
 module _ (P : ℕ → ℕ → Type 0) where
-  pub each_length : (cs gs : List ℕ) → Each P cs gs → length gs ≡ length cs
-  each_length [] [] e = refl
-  each_length [] (g ∷ gs) e = absurd e
-  each_length (c ∷ cs) [] e = absurd e
-  each_length (c ∷ cs) (g ∷ gs) e = ap suc (each_length cs gs e.1)
-
-  pub each_at : (cs gs : List ℕ) → Each P cs gs → (i : ℕ) → i < length cs → P (slice_index cs i) (slice_index gs i)
-  each_at [] gs e i h = absurd (omega arith)
-  each_at (c ∷ cs) [] e i h = absurd e
-  each_at (c ∷ cs) (g ∷ gs) e zero h = e.0
-  each_at (c ∷ cs) (g ∷ gs) e (suc i) h = each_at cs gs e.1 i (omega arith)
-
-  pub each_set : (cs gs : List ℕ) → Each P cs gs → (i v : ℕ) → P (slice_index cs i) v → Each P cs (slice_set gs i v)
+  pub each_set : (cs gs : List ℕ) → AllZip P cs gs → (i v : ℕ) → P (slice_index cs i) v → AllZip P cs (slice_set gs i v)
   each_set [] [] e i v h = tt
   each_set [] (g ∷ gs) e i v h = absurd e
   each_set (c ∷ cs) [] e i v h = absurd e
   each_set (c ∷ cs) (g ∷ gs) e zero v h = (h, e.1)
   each_set (c ∷ cs) (g ∷ gs) e (suc i) v h = (e.0, each_set cs gs e.1 i v h)
 
-  pub each_drop : (cs gs : List ℕ) → Each P cs gs → (i : ℕ) → Each P (drop i cs) (drop i gs)
+  pub each_drop : (cs gs : List ℕ) → AllZip P cs gs → (i : ℕ) → AllZip P (drop i cs) (drop i gs)
   each_drop cs gs e zero = e
   each_drop [] [] e (suc i) = tt
   each_drop [] (g ∷ gs) e (suc i) = absurd e
   each_drop (c ∷ cs) [] e (suc i) = absurd e
   each_drop (c ∷ cs) (g ∷ gs) e (suc i) = each_drop cs gs e.1 i
 
-  pub each_zero : ((c : ℕ) → P c 0) → (cs : List ℕ) → Each P cs (replicate (length cs) 0)
+  pub each_zero : ((c : ℕ) → P c 0) → (cs : List ℕ) → AllZip P cs (replicate (length cs) 0)
   each_zero z [] = tt
   each_zero z (c ∷ cs) = (z c, each_zero z cs)
 
 -- as many gifts as claims, and none above its claim
 abbrev pub Fits : List ℕ → List ℕ → Type 0
-Fits = Each (λ c g. g ≤ c)
+Fits = AllZip (λ c g. g ≤ c)
 
 pub fits_from : (cs gs : List ℕ) → length gs ≡ length cs → Within cs gs → Fits cs gs
 fits_from [] [] same h = tt

@@ -1,5 +1,5 @@
 -- An amount shared among claims, and what every sharing method owes. Assumes nothing.
-use Rattle.std.specs.Prelude.{◌≡◌, ℕ, ◌+◌, ◌%◌, ◌<◌, ◌≤◌, Bool, cond, ◌⊎◌, List, [], ◌∷◌, length, Ok, Err, Result, ◌==◌, ◌≢◌, slice_index}
+use Rattle.std.specs.Prelude.{◌≡◌, ℕ, ◌+◌, ◌%◌, ◌<◌, ◌≤◌, Bool, if◌then◌else◌, ◌⊎◌, List, [], ◌∷◌, length, Ok, Err, Result, ◌==◌, ◌≢◌, slice_index, codes}
 use Rattle.sharing.specs.declared.Unequal.{Unequal}
 
 -- all claims, or all gifts, together
@@ -27,10 +27,14 @@ equally_long claims gifts = length claims == length gifts
 abbrev pub unequal : Unequal
 unequal = record {}
 
+-- what it prints
+abbrev pub unequal_text : List ℕ
+unequal_text = codes "claims and gifts are not equally long"
+
 -- the answer of a method: it refuses just where claims and gifts are not equally long
 abbrev pub answer : List ℕ → List ℕ → Result (Unit {0}) Unequal
-answer claims gifts = cond (equally_long claims gifts) (Ok tt) (Err unequal)
+answer claims gifts = (if equally_long claims gifts then Ok tt else Err unequal)
 
 -- what the gifts hold then: the shares, and after a refusal what they held
 abbrev pub given : List ℕ → List ℕ → List ℕ → List ℕ
-given claims gifts shares = cond (equally_long claims gifts) shares gifts
+given claims gifts shares = (if equally_long claims gifts then shares else gifts)

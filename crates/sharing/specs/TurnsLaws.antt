@@ -1,10 +1,13 @@
 -- What sharing by turns keeps, and why as many rounds as shares are enough. Assumes nothing.
 use Rattle.std.specs.Prelude.{◌≡◌, ℕ, zero, suc, ◌+◌, ◌-◌, ◌%◌, ◌<◌, ◌≤◌, min, ◌⊎◌, List, [], ◌∷◌, length, replicate, ◌≢◌, slice_index, refl}
+use Rattle.std.specs.List.{AllZip}
 use Rattle.std.proofs.Common.{sym, ap, subst, ◌∙◌, inl, inr, arith}
 use Rattle.std.proofs.lemmas.Bool.{cases_lt}
+use Rattle.std.proofs.lemmas.List.Elements.{AllZip-get_or}
+use Rattle.std.proofs.lemmas.Slice.Zip.{AllZip-long}
 use Rattle.sharing.specs.Shares.{total, Within, InLots, Lotted}
 use Rattle.sharing.specs.Turns.{turn, round, rounds, turns, Level}
-use Rattle.sharing.specs.Pairs.{Each, each_length, each_at, each_zero, Fits, fits_total, total_zero}
+use Rattle.sharing.specs.Pairs.{each_zero, Fits, fits_total, total_zero}
 
 -- One round.
 
@@ -35,17 +38,14 @@ round_gives left (c ∷ cs) (g ∷ gs) f some short =
 abbrev pub Over : ℕ → List ℕ → List ℕ → Type 0
 Over left cs gs = (left ≡ 0) ⊎ (total cs ≤ total gs)
 
-cons : {x y : ℕ} {xs ys : List ℕ} → x ≡ y → xs ≡ ys → x ∷ xs ≡ y ∷ ys
-cons p q = cc
-
 pub round_over : (left : ℕ) (cs gs : List ℕ) → Fits cs gs → Over left cs gs → round left cs gs ≡ gs
 round_over left [] [] f o = refl
 round_over left [] (g ∷ gs) f o = absurd f
 round_over left (c ∷ cs) [] f o = absurd f
 round_over left (c ∷ cs) (g ∷ gs) f (inl spent) =
-    cons (omega arith) (round_over (left - turn left c g) cs gs f.1 (inl (omega arith)))
+    grind (arith, round_over (left - turn left c g) cs gs f.1 (inl (omega arith)))
 round_over left (c ∷ cs) (g ∷ gs) f (inr full) =
-    cons (omega (arith, fits_total cs gs f.1)) (round_over (left - turn left c g) cs gs f.1 (inr (omega arith)))
+    grind (arith, f.0, fits_total cs gs f.1, round_over (left - turn left c g) cs gs f.1 (inr (omega arith)))
 
 -- Many rounds.
 
@@ -100,7 +100,7 @@ one_more amount cs gs f =
 
 -- each gift is the lesser of its claim and the level
 abbrev Flat : ℕ → List ℕ → List ℕ → Type 0
-Flat level = Each (λ c g. g ≡ min c level)
+Flat level = AllZip (λ c g. g ≡ min c level)
 
 -- the claimants up to one have had a turn above the level, that one perhaps in part, and the later ones have not
 abbrev Dealt : ℕ → List ℕ → List ℕ → Type 0
@@ -163,10 +163,10 @@ turns_fits : (amount : ℕ) (cs : List ℕ) → Fits cs (turns amount cs)
 turns_fits amount cs = rounds_fits amount amount cs (replicate (length cs) 0) (zero_fits cs)
 
 pub turns_paired : (amount : ℕ) (cs : List ℕ) → length (turns amount cs) ≡ length cs
-turns_paired amount cs = each_length _ cs (turns amount cs) (turns_fits amount cs)
+turns_paired amount cs = AllZip-long _ cs (turns amount cs) (turns_fits amount cs)
 
 pub turns_within : (amount : ℕ) (cs : List ℕ) → Within cs (turns amount cs)
-turns_within amount cs = each_at _ cs (turns amount cs) (turns_fits amount cs)
+turns_within amount cs i = AllZip-get_or _ cs (turns amount cs) i 0 0 (turns_fits amount cs)
 
 pub turns_spends : (amount : ℕ) (cs : List ℕ) → total (turns amount cs) ≡ min amount (total cs)
 turns_spends amount cs =
@@ -195,7 +195,7 @@ lotted_first c g level cs gs even flat = (0, at)
   where
     at : (i : ℕ) → i < length (c ∷ cs) → (i ≢ 0) → InLots 100 (slice_index (c ∷ cs) i) (slice_index (g ∷ gs) i)
     at zero h other = absurd (other refl)
-    at (suc i) h other = least_lotted (slice_index cs i) (slice_index gs i) level even (each_at _ cs gs flat i (omega arith))
+    at (suc i) h other = least_lotted (slice_index cs i) (slice_index gs i) level even (AllZip-get_or _ cs gs i 0 0 flat (omega arith))
 
 dealt_lotted : (level : ℕ) (cs gs : List ℕ) → level % 100 ≡ 0 → Dealt level cs gs → Lotted 100 cs gs
 dealt_lotted level [] gs even d = (0, λ i h other. absurd (omega arith))
@@ -209,7 +209,7 @@ turns_lots amount cs = let dealt = turns_dealt amount cs in dealt_lotted dealt.0
 
 -- each gift lies between its claim's share of the level and that of the next
 abbrev Banded : ℕ → List ℕ → List ℕ → Type 0
-Banded level = Each (λ c g. (min c level ≤ g) × (g ≤ min c (level + 100)))
+Banded level = AllZip (λ c g. (min c level ≤ g) × (g ≤ min c (level + 100)))
 
 flat_banded : (level : ℕ) (cs gs : List ℕ) → Flat level cs gs → Banded level cs gs
 flat_banded level [] [] f = tt
@@ -227,5 +227,5 @@ dealt_banded level (c ∷ cs) (g ∷ gs) (inr d) = ((d.0, d.1), flat_banded leve
 pub turns_level : (amount : ℕ) (cs : List ℕ) → Level cs (turns amount cs)
 turns_level amount cs i j i_there j_there short =
     let dealt = turns_dealt amount cs in
-    let band = each_at _ cs (turns amount cs) (dealt_banded dealt.0 cs (turns amount cs) dealt.2) in
-    omega (arith, band i i_there, band j j_there)
+    let band = dealt_banded dealt.0 cs (turns amount cs) dealt.2 in
+    omega (arith, AllZip-get_or _ cs (turns amount cs) i 0 0 band i_there, AllZip-get_or _ cs (turns amount cs) j 0 0 band j_there)

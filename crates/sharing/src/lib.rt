@@ -1,8 +1,11 @@
 // Methods of sharing an amount among claims, and what each of them owes.
 #![tactic(auto)]
 
-ghost use Rattle.std.specs.Prelude.{◌≡◌, ℕ, ◌≤◌, min, List, length};
-ghost use Rattle.sharing.specs.Shares.{total, Within, Lotted, answer, given};
+ghost use Rattle.std.specs.Prelude.{◌≡◌, ℕ, ◌≤◌, min, List, length, Some};
+ghost use Rattle.sharing.specs.Shares.{total, Within, Lotted, unequal_text, answer, given};
+
+use std::error::Error;
+use std::fmt;
 
 mod arrival;
 mod turns;
@@ -14,27 +17,42 @@ pub use turns::ByTurns;
 #[derive(Clone, Copy, PartialEq, Eq, Debug)]
 pub struct Unequal;
 
+// By hand: a derived text has no contract.
+impl fmt::Display for Unequal {
+    ghost output = { λ _. Some unequal_text };
+
+    fn fmt<W: fmt::Write>(&self, f: &mut fmt::Formatter<W>) -> fmt::Result {
+        write!(f, "claims and gifts are not equally long")
+    }
+}
+
+impl Error for Unequal {}
+
 /// A method of sharing an amount among claims.
 pub trait Sharing {
     /// The lot: each gift is its claim or a multiple of the lot, save for at most one claimant.
     const LOT: u32;
 
-    // The lot as the law below speaks of it. `lot_size` ties it to the constant.
-    ghost lot: { ℕ };
+    // The same number, for the laws below to cite. The check proves the two equal.
+    ghost LOT: { ℕ };
 
     // What the method means: one fixed list of gifts for each amount and claims.
     ghost meaning: { Self → ℕ → List ℕ → List ℕ };
 
     /// The lot, for a program to read.
-    fn lot_size() -> u32
-        ensures value { result ≡ lot };
+    final fn lot_size() -> u32
+        ensures value { result ≡ LOT }
+    {
+        Self::LOT
+    }
 
     /// Shares `amount` among `claims` and writes the gifts. Refuses, and writes no gift, when claims and gifts are not equally long.
+    // Two slices of the caller's, since no call allocates (docs/DECISIONS.md, "Forms that are fixed").
     fn share(&self, amount: u64, claims: &[u32], gifts: &mut [u32]) -> Result<(), Unequal>
         ensures value { result ≡ answer claims.now gifts.old }
         ensures after { gifts.new ≡ given claims.now gifts.old (meaning self.now amount claims.now) };
 
-    ghost positive: { 1 ≤ lot };
+    ghost positive: { 1 ≤ LOT };
 
     ghost paired: { (s : Self) (amount : ℕ) (claims : List ℕ) → length (meaning s amount claims) ≡ length claims };
 
@@ -42,7 +60,18 @@ pub trait Sharing {
 
     ghost spends: { (s : Self) (amount : ℕ) (claims : List ℕ) → total (meaning s amount claims) ≡ min amount (total claims) };
 
-    ghost lots: { (s : Self) (amount : ℕ) (claims : List ℕ) → Lotted lot claims (meaning s amount claims) };
+    ghost lots: { (s : Self) (amount : ℕ) (claims : List ℕ) → Lotted LOT claims (meaning s amount claims) };
+}
+
+/// Refuses where claims and gifts are not equally long.
+fn check_lengths(claims: &[u32], gifts: &[u32]) -> Result<(), Unequal>
+    ensures value { result ≡ answer claims.now gifts.now }
+{
+    if claims.len() == gifts.len() {
+        Ok(())
+    } else {
+        Err(Unequal)
+    }
 }
 
 #[cfg(test)]

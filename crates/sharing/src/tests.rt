@@ -3,20 +3,24 @@ ghost use Rattle.std.specs.Prelude.{◌≡◌, [], ◌∷◌};
 
 use crate::{ByArrival, ByTurns, Sharing, Unequal};
 
+fn example_by<S: Sharing>(method: &S) -> [u32; 3]
+    ensures value { result ≡ S.meaning method.now 250 (300 ∷ 50 ∷ 200 ∷ []) }
+{
+    let mut gifts = [7; 3];
+    method.share(250, &[300, 50, 200], &mut gifts).unwrap();
+    gifts
+}
+
 fn example_by_arrival() -> [u32; 3]
     ensures value { result ≡ 250 ∷ 0 ∷ 0 ∷ [] }
 {
-    let mut gifts = [7; 3];
-    let _ = ByArrival.share(250, &[300, 50, 200], &mut gifts);
-    gifts
+    example_by(&ByArrival)
 }
 
 fn example_by_turns() -> [u32; 3]
     ensures value { result ≡ 100 ∷ 50 ∷ 100 ∷ [] }
 {
-    let mut gifts = [7; 3];
-    let _ = ByTurns.share(250, &[300, 50, 200], &mut gifts);
-    gifts
+    example_by(&ByTurns)
 }
 
 #[test]
