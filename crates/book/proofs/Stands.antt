@@ -2,8 +2,9 @@
 use Rattle.std.proofs.Common.{◌≡◌, ℕ, ◌+◌, ◌<◌, ◌≤◌, min, true, false, cond, ◌&&◌, ◌||◌, ltb, ◌⊎◌, List, length, sym, ap, ◌∙◌, inl, inr, arith}
 use Rattle.std.proofs.lemmas.Bool.{cases_lt, and_parts, or_parts, ltb-false}
 use Rattle.std.proofs.lemmas.Bool.Decides.{nat_tests}
+use Rattle.std.specs.List.{AllZip}
 use Rattle.sharing.specs.Shares.{total, Within}
-use Rattle.book.specs.Each.{Each}
+use Rattle.sharing.specs.Pairs.{fits_from}
 use Rattle.sharing.specs.Arrival.{arrival}
 use Rattle.sharing.specs.ArrivalLaws.{arrival_paired, arrival_within, arrival_spends}
 use Rattle.order.specs.declared.kind.Side.{Side}
@@ -15,14 +16,14 @@ use Rattle.book.specs.Volume.{traded, unfillable}
 use Rattle.book.specs.Assignment.{side_shares, Assignment, InOrder}
 use Rattle.book.specs.Fill.{filled_whole, left_over, part_of, claim_in, share_in, asked, claims_of, fills_of}
 use Rattle.book.specs.Theorem.{NoAssignment, Largest, Filled}
-use Rattle.book.proofs.Pairs.{each_map, each_from, each_within, each_made, each_gifts, same_side, shares_whole, shares_none, shares_split, shares_gifts, shares_both}
+use Rattle.book.proofs.Pairs.{each_map, each_from, each_made, each_gifts, same_side, shares_whole, shares_none, shares_split, shares_gifts, shares_both}
 use Rattle.book.proofs.Whole.{musts_open, one_more, whole_open, whole_most, whole_left, left_open, left_short, one_left}
 use Rattle.book.proofs.Parts.{claim_none, claim_whole, share_is, share_within, share_none, share_whole, share_before}
 use Rattle.book.proofs.Pinning.{trades_most, musts_fit, class_pins, one_cut}
 
 -- an amount divided among claims: as many gifts as claims, none above its claim, together the lesser of the amount and all claims
 pub record Divided (amount : ℕ) (claims gifts : List ℕ) : Type 0 where
-  pub within : Each (λ c g. g ≤ c) claims gifts
+  pub within : AllZip (λ c g. g ≤ c) claims gifts
   pub spent : total gifts ≡ min amount (total claims)
 
 pub none : (es : List Entry) → unfillable es ≡ true → NoAssignment es
@@ -49,10 +50,10 @@ claims_enough es s = elim (cases_lt 0 (left_over es s)) [ inl some ↦ enough so
         whole e last = let here = and_parts _ _ last in rw (same_side s e.side here.0) (claim_whole (filled_whole es s) (left_over es s) some e.rank e.size here.1)
 
 module _ (es : List Entry) (gs : List ℕ) (divided : Divided (asked es) (claims_of es) gs) where
-  within : Each (λ e g. g ≤ claim_in (part_of es e) e.size) es gs
+  within : AllZip (λ e g. g ≤ claim_in (part_of es e) e.size) es gs
   within = each_from (λ c g. g ≤ c) (λ e. claim_in (part_of es e) e.size) es gs divided.within
 
-  each_fill : (P : Entry → ℕ → Type 0) → ((e : Entry) (g : ℕ) → g ≤ claim_in (part_of es e) e.size → P e (share_in (part_of es e) e.size g)) → Each P es (fills_of es gs)
+  each_fill : (P : Entry → ℕ → Type 0) → ((e : Entry) (g : ℕ) → g ≤ claim_in (part_of es e) e.size → P e (share_in (part_of es e) e.size g)) → AllZip P es (fills_of es gs)
   each_fill P h = each_gifts P (λ e g. share_in (part_of es e) e.size g) es gs (each_map _ _ h es gs within)
 
   gifts_none : (s : Side) → left_over es s ≡ 0 → side_shares s es gs ≡ 0
@@ -107,7 +108,7 @@ module _ (es : List Entry) (gs : List ℕ) (divided : Divided (asked es) (claims
       fit Sell = ltb-false _ _ (or_parts _ _ fillable).1
 
 pub divided_by : (a : ℕ) (cs gs : List ℕ) → length gs ≡ length cs → Within cs gs → total gs ≡ min a (total cs) → Divided a cs gs
-divided_by a cs gs paired within spent = record { within = each_within cs gs paired within; spent = spent }
+divided_by a cs gs paired within spent = record { within = fits_from cs gs paired within; spent = spent }
 
 -- shared by arrival
 pub largest : (es : List Entry) → unfillable es ≡ false → Largest es (traded es)

@@ -1,9 +1,9 @@
 -- What a fill answers, and what the lists then hold. Assumes nothing.
-use Rattle.std.specs.Prelude.{ℕ, Bool, cond, not, ◌&&◌, List, ◌++◌, map, length, drop, Ok, Err, Result, nat_le}
+use Rattle.std.specs.Prelude.{ℕ, Bool, if◌then◌else◌, not, ◌&&◌, List, ◌++◌, map, length, drop, Ok, Err, Result, nat_le}
 use Rattle.list.specs.declared.List.{List as Held}
 use Rattle.list.specs.Held.{contents, held, kept, holding}
 use Rattle.order.specs.declared.kind.Row.{Row}
-use Rattle.order.specs.declared.sale.Sale.{Sale}
+use Rattle.order.specs.declared.terms.Terms.{Terms}
 use Rattle.book.specs.declared.entry.Entry.{Entry}
 use Rattle.book.specs.declared.fills.FillFault.{FillFault}
 use Rattle.book.specs.declared.fills.FillFault.TheVariants.{NoPlace, Unfillable, Unequal}
@@ -31,29 +31,33 @@ gifts_of meaning es = meaning (asked es) (claims_of es)
 abbrev pub work_after : Held Row → List ℕ → List ℕ → List ℕ
 work_after l ns places = ns ++ drop (held l) places
 
--- the list with what each order gets; its other places hold what they held
-abbrev pub list_after : Held Row → List ℕ → Held Row
-list_after l fills = holding l (given_rows (kept l) fills ++ drop (held l) (contents l)) l.count
+-- the list with these elements in the place of those it holds; its other places hold what they held
+abbrev pub rewritten : {T : Type 0} → Held T → List T → Held T
+rewritten l xs = holding l (xs ++ drop (held l) (contents l)) l.count
 
--- of a list, a price, the last sale, and the two work lists
-module _ (l : Held Row) (p : ℕ) (last : Sale) (claims gifts : List ℕ) where
+-- the list with what each order gets
+abbrev pub list_after : Held Row → List ℕ → Held Row
+list_after l fills = rewritten l (given_rows (kept l) fills)
+
+-- of a list, the terms, and the two work lists
+module _ (l : Held Row) (terms : Terms) (claims gifts : List ℕ) where
   -- the volume, or the first question answered no
   abbrev pub fill_answer : Result ℕ FillFault
-  fill_answer = cond (roomy l claims gifts) (cond (unfillable (orders_at l p last)) (Err Unfillable) (Ok (traded (orders_at l p last)))) (Err NoPlace)
+  fill_answer = (if roomy l claims gifts then (if unfillable (orders_at l terms) then Err Unfillable else Ok (traded (orders_at l terms))) else Err NoPlace)
 
   -- no question is answered no
   abbrev pub fillable : Bool
-  fillable = roomy l claims gifts && not (unfillable (orders_at l p last))
+  fillable = roomy l claims gifts && not (unfillable (orders_at l terms))
 
   -- what the claims, the gifts and the list are then; a refusal leaves each as it was
   abbrev pub claims_after : List ℕ
-  claims_after = cond fillable (work_after l (claims_of (orders_at l p last)) claims) claims
+  claims_after = (if fillable then work_after l (claims_of (orders_at l terms)) claims else claims)
 
   abbrev pub gifts_after : (ℕ → List ℕ → List ℕ) → List ℕ
-  gifts_after meaning = cond fillable (work_after l (gifts_of meaning (orders_at l p last)) gifts) gifts
+  gifts_after meaning = (if fillable then work_after l (gifts_of meaning (orders_at l terms)) gifts else gifts)
 
   abbrev pub rows_after : (ℕ → List ℕ → List ℕ) → Held Row
-  rows_after meaning = cond fillable (list_after l (fills_of (orders_at l p last) (gifts_of meaning (orders_at l p last)))) l
+  rows_after meaning = (if fillable then list_after l (fills_of (orders_at l terms) (gifts_of meaning (orders_at l terms))) else l)
 
 -- what the rows of a list have been given
 abbrev pub given_in : Held Row → List ℕ

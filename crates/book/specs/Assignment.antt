@@ -1,6 +1,6 @@
 -- Assignments of shares to the orders of a list at a price. Assumes nothing.
-use Rattle.std.specs.Prelude.{◌≡◌, ℕ, ◌+◌, ◌<◌, ◌≤◌, Bool, true, false, cond, ◌&&◌, List, [], ◌∷◌, Some, None, Option}
-use Rattle.book.specs.Each.{Each}
+use Rattle.std.specs.Prelude.{◌≡◌, ℕ, ◌+◌, ◌<◌, ◌≤◌, Bool, true, false, if◌then◌else◌, ◌&&◌, List, [], ◌∷◌, Some, None, Option}
+use Rattle.std.specs.List.{AllZip}
 use Rattle.order.specs.declared.kind.Side.{Side}
 use Rattle.order.specs.declared.kind.Side.TheVariants.{Buy, Sell}
 use Rattle.order.specs.Kinds.{is}
@@ -11,7 +11,7 @@ use Rattle.book.specs.Weight.{musts, among, ranked, in_class, eligible}
 abbrev pub shares : (Entry → Bool) → List Entry → List ℕ → ℕ
 shares p [] xs = 0
 shares p (e ∷ es) [] = 0
-shares p (e ∷ es) (x ∷ xs) = cond (p e) x 0 + shares p es xs
+shares p (e ∷ es) (x ∷ xs) = (if p e then x else 0) + shares p es xs
 
 -- the shares of a side
 abbrev pub side_shares : Side → List Entry → List ℕ → ℕ
@@ -24,11 +24,11 @@ class_shares es xs s k = shares (λ e. is s e.side && ranked k e.rank) es xs
 -- an assignment gives each order a whole number of shares
 pub record Assignment (es : List Entry) (xs : List ℕ) : Type 0 where
   -- none more than its size
-  pub within : Each (λ e x. x ≤ e.size) es xs
+  pub within : AllZip (λ e x. x ≤ e.size) es xs
   -- none to an order that is not eligible
-  pub eligible_only : Each (λ e x. eligible es e ≡ false → x ≡ 0) es xs
+  pub eligible_only : AllZip (λ e x. eligible es e ≡ false → x ≡ 0) es xs
   -- whoever must execute gets its whole size
-  pub must_whole : Each (λ e x. among musts e.rank ≡ true → x ≡ e.size) es xs
+  pub must_whole : AllZip (λ e x. among musts e.rank ≡ true → x ≡ e.size) es xs
   -- buys and sells add up alike
   pub level : side_shares Buy es xs ≡ side_shares Sell es xs
 
@@ -45,8 +45,8 @@ Before (Some j) (Some k) = j < k
 -- nobody gets shares while an eligible order of an earlier class on its side lacks some
 abbrev pub InOrder : List Entry → List ℕ → Type 0
 InOrder es xs =
-    Each
-    (λ e x. 0 < x → Each (λ d y. d.side ≡ e.side → eligible es d ≡ true → Before d.rank e.rank → y ≡ d.size) es xs)
+    AllZip
+    (λ e x. 0 < x → AllZip (λ d y. d.side ≡ e.side → eligible es d ≡ true → Before d.rank e.rank → y ≡ d.size) es xs)
     es
     xs
 

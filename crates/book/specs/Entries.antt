@@ -1,21 +1,21 @@
 -- The rows of a list as the close sees them at a price. Assumes nothing.
-use Rattle.std.specs.Prelude.{ℕ, cond, List, map, None}
+use Rattle.std.specs.Prelude.{if◌then◌else◌, List, map, None}
 use Rattle.std.specs.Option.{option_map}
 use Rattle.list.specs.declared.List.{List as Held}
 use Rattle.list.specs.Held.{kept}
 use Rattle.order.specs.declared.kind.Row.{Row}
-use Rattle.order.specs.declared.sale.Sale.{Sale}
+use Rattle.order.specs.declared.terms.Terms.{Terms}
 use Rattle.order.specs.Rows.{sound}
 use Rattle.order.specs.Classes.{rank_of, class_of}
 use Rattle.book.specs.declared.entry.Entry.{Entry}
 
--- a row's side, its size and the rank of its class at the price p; a row that fails its check has no rank
-abbrev pub entered : ℕ → Sale → Row → Entry
-entered p last r = record { side = r.side; rank = cond (sound r) (option_map rank_of (class_of r p last)) None; size = r.size }
+-- a row's side, its size and the rank of its class on these terms; a row that fails its check has no rank
+abbrev pub entered : Terms → Row → Entry
+entered terms r = record { side = r.side; rank = (if sound r then option_map rank_of (class_of r terms) else None); size = r.size }
 
-abbrev pub entries : ℕ → Sale → List Row → List Entry
-entries p last rows = map (entered p last) rows
+abbrev pub entries : Terms → List Row → List Entry
+entries terms rows = map (entered terms) rows
 
--- the orders of a list at the price p
-abbrev pub orders_at : Held Row → ℕ → Sale → List Entry
-orders_at l p last = entries p last (kept l)
+-- the orders of a list on these terms
+abbrev pub orders_at : Held Row → Terms → List Entry
+orders_at l terms = entries terms (kept l)

@@ -1,5 +1,5 @@
 -- Each side filled class by class up to V, and the class that is cut. Assumes nothing.
-use Rattle.std.specs.Prelude.{ℕ, zero, suc, ◌-◌, max, cond, ◌&&◌, List, [], ◌∷◌, map, Some, None, Option, ◌==◌, nat_le, nat_lt}
+use Rattle.std.specs.Prelude.{ℕ, zero, suc, ◌-◌, max, if◌then◌else◌, ◌&&◌, List, map, zip, Some, None, Option, ◌==◌, nat_le, nat_lt}
 use Rattle.order.specs.declared.kind.Row.{Row}
 use Rattle.order.specs.declared.kind.Side.{Side}
 use Rattle.order.specs.declared.kind.Side.TheVariants.{Buy, Sell}
@@ -13,7 +13,7 @@ use Rattle.book.specs.Volume.{traded}
 -- of a side's first n classes, how many fit whole into V
 abbrev pub fitting : List Entry → Side → ℕ → ℕ
 fitting es s zero = 0
-fitting es s (suc n) = cond (nat_le (first es s (suc n)) (traded es)) (suc n) (fitting es s n)
+fitting es s (suc n) = (if nat_le (first es s (suc n)) (traded es) then suc n else fitting es s n)
 
 -- how many classes of a side are filled whole
 abbrev pub filled_whole : List Entry → Side → ℕ
@@ -26,7 +26,7 @@ left_over es s = traded es - first es s (filled_whole es s)
 -- what an order's class gets, with m classes filled whole and l left: its whole size, a share of what is left, or nothing
 abbrev pub part : ℕ → ℕ → Option ℕ → Part
 part m l None = Nothing
-part m l (Some rank) = cond (nat_lt rank m) Whole (cond (rank == m && nat_lt 0 l) Shared Nothing)
+part m l (Some rank) = (if nat_lt rank m then Whole else (if rank == m && nat_lt 0 l then Shared else Nothing))
 
 abbrev pub part_of : List Entry → Entry → Part
 part_of es e = part (filled_whole es e.side) (left_over es e.side) e.rank
@@ -52,9 +52,7 @@ claims_of es = map (λ e. claim_in (part_of es e) e.size) es
 
 -- f of each element and the number at its place
 abbrev pub beside : {A B : Type 0} → (A → ℕ → B) → List A → List ℕ → List B
-beside f [] ns = []
-beside f (x ∷ xs) [] = []
-beside f (x ∷ xs) (n ∷ ns) = f x n ∷ beside f xs ns
+beside f xs ns = map (λ p. f p.0 p.1) (zip xs ns)
 
 -- what each order gets, with the gifts of the method
 abbrev pub fills_of : List Entry → List ℕ → List ℕ
@@ -62,11 +60,11 @@ fills_of es gifts = beside (λ e g. share_in (part_of es e) e.size g) es gifts
 
 -- a row with what it gets; a row that fails its check stays as it is
 abbrev pub given_row : Row → ℕ → Row
-given_row r n = cond (sound r) (refilled r n) r
+given_row r n = (if sound r then refilled r n else r)
 
 abbrev pub given_rows : List Row → List ℕ → List Row
 given_rows rows fills = beside given_row rows fills
 
 -- what a row has been given: its filled shares, or 0 where it fails its check
 abbrev pub given_of : Row → ℕ
-given_of r = cond (sound r) r.filled 0
+given_of r = (if sound r then r.filled else 0)

@@ -1,5 +1,5 @@
 -- The imbalance of a list at the reference price. Assumes nothing.
-use Rattle.std.specs.Prelude.{ℕ, ◌-◌, ◌*◌, ◌/◌, Bool, true, false, cond, not, ◌&&◌, List, ℤ, pos, neg_ℤ, is_some, sum_by, nat_lt}
+use Rattle.std.specs.Prelude.{ℕ, ◌-◌, ◌*◌, ◌/◌, Bool, true, false, if◌then◌else◌, not, ◌&&◌, List, ℤ, pos, neg_ℤ, is_some, sum_by, nat_lt}
 use Rattle.order.specs.declared.kind.Kind.{Kind}
 use Rattle.order.specs.declared.kind.Kind.TheVariants.{MarketOnClose, Crowd, LimitOnClose, Book, MarketMaker, ClosingOffset, Yielding, Stop}
 use Rattle.order.specs.declared.kind.Row.{Row}
@@ -7,7 +7,7 @@ use Rattle.order.specs.declared.kind.Side.{Side}
 use Rattle.order.specs.declared.kind.Side.TheVariants.{Buy, Sell}
 use Rattle.order.specs.declared.limit.Standing.{Standing}
 use Rattle.order.specs.declared.limit.Standing.TheVariants.{Better, At, Out}
-use Rattle.order.specs.declared.sale.Sale.{Sale}
+use Rattle.order.specs.declared.terms.Terms.{Terms}
 use Rattle.order.specs.Classes.{class_of}
 use Rattle.order.specs.Kinds.{is, on_close}
 use Rattle.order.specs.Limits.{standing_of}
@@ -34,31 +34,31 @@ aggregates ClosingOffset st = false
 aggregates Yielding st = false
 aggregates Stop st = false
 
--- an order of the aggregate at the reference price p
-abbrev pub in_aggregate : ℕ → Sale → Row → Bool
-in_aggregate p last r = sound r && not r.marked && aggregates r.kind (standing_of r p last)
+-- an order of the aggregate on these terms, whose price is the reference price
+abbrev pub in_aggregate : Terms → Row → Bool
+in_aggregate terms r = sound r && not r.marked && aggregates r.kind (standing_of r terms)
 
--- an order that offsets: market or limit on close, eligible at the reference price, and outside the aggregate
-abbrev pub in_offset : ℕ → Sale → Row → Bool
-in_offset p last r = sound r && on_close r.kind && is_some (class_of r p last) && not (in_aggregate p last r)
+-- an order that offsets: market or limit on close, eligible on these terms, and outside the aggregate
+abbrev pub in_offset : Terms → Row → Bool
+in_offset terms r = sound r && on_close r.kind && is_some (class_of r terms) && not (in_aggregate terms r)
 
 -- the sizes of a side's orders that pass a test, each cut down to hundreds, added up
 abbrev pub hundreds : (Row → Bool) → Side → List Row → ℕ
-hundreds test s rows = sum_by (λ r. cond (is s r.side && test r) (in_hundreds r.size) 0) rows
+hundreds test s rows = sum_by (λ r. (if is s r.side && test r then in_hundreds r.size else 0)) rows
 
-abbrev pub aggregate_of : List Row → ℕ → Sale → Side → ℕ
-aggregate_of rows p last s = hundreds (in_aggregate p last) s rows
+abbrev pub aggregate_of : List Row → Terms → Side → ℕ
+aggregate_of rows terms s = hundreds (in_aggregate terms) s rows
 
-abbrev pub offset_of : List Row → ℕ → Sale → Side → ℕ
-offset_of rows p last s = hundreds (in_offset p last) s rows
+abbrev pub offset_of : List Row → Terms → Side → ℕ
+offset_of rows terms s = hundreds (in_offset terms) s rows
 
 -- by how much a side's aggregate exceeds the other's, brought towards 0, and never past it, by what offsets it on the other side
-abbrev pub excess : List Row → ℕ → Sale → Side → Side → ℕ
-excess rows p last larger smaller = aggregate_of rows p last larger - aggregate_of rows p last smaller - offset_of rows p last smaller
+abbrev pub excess : List Row → Terms → Side → Side → ℕ
+excess rows terms larger smaller = aggregate_of rows terms larger - aggregate_of rows terms smaller - offset_of rows terms smaller
 
 -- the amount: positive is a buy imbalance, negative a sell imbalance
-abbrev pub amount_of : List Row → ℕ → Sale → ℤ
-amount_of rows p last =
-    cond (nat_lt (aggregate_of rows p last Sell) (aggregate_of rows p last Buy))
-    (pos (excess rows p last Buy Sell))
-    (neg_ℤ (pos (excess rows p last Sell Buy)))
+abbrev pub amount_of : List Row → Terms → ℤ
+amount_of rows terms =
+    (if nat_lt (aggregate_of rows terms Sell) (aggregate_of rows terms Buy)
+    then pos (excess rows terms Buy Sell)
+    else neg_ℤ (pos (excess rows terms Sell Buy)))

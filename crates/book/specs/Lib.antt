@@ -1,4 +1,3 @@
-pub mod Each
 pub mod Entries
 pub mod Weight
 pub mod Volume
@@ -8,4 +7,6 @@ pub mod Theorem
 pub mod Answers
 pub mod Imbalance
 pub mod Plans
+pub mod Tally
+pub mod Texts
 pub mod Totals

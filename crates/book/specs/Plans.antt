@@ -1,13 +1,16 @@
 -- The plan of a price: how much trades there, and how far each side is filled. Assumes nothing.
-use Rattle.std.specs.Prelude.{◌≡◌, ℕ, max, cond, List, Ok, Err, Result, MatchResult}
+use Rattle.std.specs.Prelude.{◌≡◌, ℕ, max, if◌then◌else◌, List, Ok, Err, Result, MatchResult}
 use Rattle.order.specs.declared.kind.Side.{Side}
 use Rattle.order.specs.declared.kind.Side.TheVariants.{Buy, Sell}
+use Rattle.order.specs.declared.kind.Row.{Row}
 use Rattle.book.specs.declared.entry.Entry.{Entry}
+use Rattle.book.specs.declared.fills.Filling.{Filling}
 use Rattle.book.specs.declared.sides.Cut.{Cut}
 use Rattle.book.specs.declared.sides.Part.{Part}
 use Rattle.book.specs.declared.sides.Plan.{Plan}
 use Rattle.book.specs.declared.sides.Unfillable.{Unfillable}
-use Rattle.book.specs.Fill.{filled_whole, left_over, part, claim_in, share_in}
+use Rattle.book.specs.Entries.{entered}
+use Rattle.book.specs.Fill.{filled_whole, left_over, part, claim_in, share_in, given_row}
 use Rattle.book.specs.Theorem.{NoAssignment, Largest}
 use Rattle.book.specs.Volume.{traded, unfillable}
 
@@ -24,7 +27,7 @@ no_fill = record {}
 
 -- the plan, or the refusal where the price is unfillable
 abbrev pub plan_at : List Entry → Result Plan Unfillable
-plan_at es = cond (unfillable es) (Err no_fill) (Ok (planned es))
+plan_at es = (if unfillable es then Err no_fill else Ok (planned es))
 
 -- a plan comes with a volume that is the largest, and its refusal means that there is no assignment
 pub record Planned (es : List Entry) (r : Result Plan Unfillable) : Type 0 where
@@ -51,3 +54,11 @@ claim_by p e = claim_in (part_in p e) e.size
 -- what an order gets by a plan, with its gift
 abbrev pub share_by : Plan → Entry → ℕ → ℕ
 share_by p e g = share_in (part_in p e) e.size g
+
+-- what a row claims by a plan on the terms that it was made for
+abbrev pub row_claim : Filling → Row → ℕ
+row_claim f row = claim_by f.plan (entered f.terms row)
+
+-- what a row becomes by the plan, with its gift
+abbrev pub row_filled : Filling → Row → ℕ → Row
+row_filled f row gift = given_row row (share_by f.plan (entered f.terms row) gift)

@@ -1,5 +1,5 @@
 -- How much trades at a price. Assumes nothing.
-use Rattle.std.specs.Prelude.{ℕ, ◌+◌, min, Bool, cond, ◌||◌, List, nat_lt}
+use Rattle.std.specs.Prelude.{ℕ, ◌+◌, min, Bool, if◌then◌else◌, ◌||◌, List, nat_lt}
 use Rattle.order.specs.declared.kind.Side.TheVariants.{Buy, Sell}
 use Rattle.book.specs.declared.entry.Entry.{Entry}
 use Rattle.book.specs.Weight.{musts, commons, first, in_class, weight}
@@ -7,7 +7,7 @@ use Rattle.book.specs.Weight.{musts, commons, first, in_class, weight}
 -- V of the W to buy and to sell and the last class to buy and to sell: the lesser of the heavier W and the lighter W plus the lighter side's
 -- last class; with equal sides it is their W
 abbrev pub traded_by : ℕ → ℕ → ℕ → ℕ → ℕ
-traded_by buy sell last_buy last_sell = cond (nat_lt buy sell) (min sell (buy + last_buy)) (cond (nat_lt sell buy) (min buy (sell + last_sell)) buy)
+traded_by buy sell last_buy last_sell = (if nat_lt buy sell then min sell (buy + last_buy) else (if nat_lt sell buy then min buy (sell + last_sell) else buy))
 
 -- V, what trades
 abbrev pub traded : List Entry → ℕ

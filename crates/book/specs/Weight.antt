@@ -1,5 +1,5 @@
 -- What each side has in its classes, and which side is lighter. Assumes nothing.
-use Rattle.std.specs.Prelude.{◌≡◌, ℕ, suc, ◌+◌, Bool, false, cond, ◌&&◌, List, [], ◌∷◌, Some, None, Option, ◌==◌, nat_lt}
+use Rattle.std.specs.Prelude.{◌≡◌, ℕ, suc, ◌+◌, Bool, false, if◌then◌else◌, ◌&&◌, List, [], ◌∷◌, Some, None, Option, ◌==◌, nat_lt}
 use Rattle.order.specs.declared.kind.Side.{Side}
 use Rattle.order.specs.declared.kind.Side.TheVariants.{Buy, Sell}
 use Rattle.order.specs.Kinds.{is, facing}
@@ -26,7 +26,7 @@ ranked k (Some rank) = rank == k
 -- the sizes of the entries that pass a test, added up
 abbrev pub sizes : (Entry → Bool) → List Entry → ℕ
 sizes p [] = 0
-sizes p (e ∷ es) = cond (p e) e.size 0 + sizes p es
+sizes p (e ∷ es) = (if p e then e.size else 0) + sizes p es
 
 -- what a side has in its first k classes
 abbrev pub first : List Entry → Side → ℕ → ℕ
@@ -46,7 +46,7 @@ lighter es s = nat_lt (weight es s) (weight es (facing s))
 
 -- how many classes are open to a side: 0 to 5, and 6 too on the lighter side
 abbrev pub open_to : List Entry → Side → ℕ
-open_to es s = cond (lighter es s) (suc commons) commons
+open_to es s = (if lighter es s then suc commons else commons)
 
 -- eligible: in a class that is open to its side
 abbrev pub eligible : List Entry → Entry → Bool

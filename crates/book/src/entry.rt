@@ -1,38 +1,32 @@
-// What the close sees of a row at a price.
+// What the close sees of a row on the terms of a price.
 ghost use Rattle.std.specs.Prelude.{◌≡◌, suc, ◌≤◌, if◌then◌else◌, nat_lt};
 ghost use Rattle.book.specs.Entries.{entered};
 ghost use Rattle.book.specs.Weight.{commons, EligibleBy};
 
-use order::{Order, Row, Sale, Side};
+use order::{Class, Order, Row, Side, Terms};
 
-/// How many classes are open to both sides. The class after them is open to the lighter side only.
-pub(crate) const OPEN_TO_BOTH: usize = 6;
+/// How many classes are open to both sides: those before the last, which is open to the lighter side only.
+pub(crate) const OPEN_TO_BOTH: usize = Class::OffsetIn as usize;
 
-/// An order as the close sees it at one price: its side, the rank of its class there, and its size. Without a rank it is eligible for
+/// How many classes there are.
+pub(crate) const CLASSES: usize = OPEN_TO_BOTH + 1;
+
+/// An order as the close sees it on some terms: its side, the rank of its class there, and its size. Without a rank it is eligible for
 /// nothing.
-#[derive(Clone, Copy)]
+#[derive(Clone, Copy, PartialEq, Eq, Debug)]
 pub struct Entry {
     pub side: Side,
+    // A rank and no `Class`: the theorem about fills speaks of classes by their ranks alone.
     pub rank: Option<usize>,
     pub size: u32,
 }
 
 impl Entry {
-    /// What the close sees of `row` at `price` after the last sale. A row that fails its check has no rank.
-    pub fn at(row: Row, price: u32, sale: Sale) -> Entry
-        ensures value { result ≡ entered price sale row }
+    /// What the close sees of `row` on these terms. A row that fails its check has no rank.
+    pub fn at(row: Row, terms: Terms) -> Entry
+        ensures value { result ≡ entered terms row }
     {
-        let Some(order) = Order::from_row(row) else {
-            return Entry {
-                side: row.side,
-                rank: None,
-                size: row.size,
-            };
-        };
-        let rank = match order.class(price, sale) {
-            None => None,
-            Some(class) => Some(class.rank()),
-        };
+        let rank = Order::try_from(row).map_or(None, |order| order.class(terms).map(Class::rank));
         Entry {
             side: row.side,
             rank,
@@ -49,21 +43,15 @@ impl Entry {
             Side::Buy => open_to(buy, sell),
             Side::Sell => open_to(sell, buy),
         };
-        match self.rank {
-            None => false,
-            Some(rank) => rank < open,
-        }
+        self.rank.is_some_and(|rank| rank < open)
     }
 }
 
 /// How many classes are open to a side of the one weight that faces the other.
+// That there are at most seven is asked of each number of classes. A type for such numbers would be no plainer: two functions ask it.
 pub(crate) fn open_to(own: u64, facing: u64) -> usize
     ensures value { result ≡ (if nat_lt own facing then suc commons else commons) }
     ensures within { result ≤ 7 }
 {
-    if own < facing {
-        OPEN_TO_BOTH + 1
-    } else {
-        OPEN_TO_BOTH
-    }
+    if own < facing { CLASSES } else { OPEN_TO_BOTH }
 }

@@ -5,10 +5,26 @@ ghost use Rattle.book.specs.Plans.{cut_for, part_in, asked_by, claim_by, share_b
 
 use crate::entry::Entry;
 use order::Side;
+use std::error::Error;
+use std::fmt;
 
 /// The price is unfillable: no division of the shares fills every order that must execute.
 #[derive(Clone, Copy, PartialEq, Eq, Debug)]
 pub struct Unfillable;
+
+// By hand: a derived text has no contract.
+impl fmt::Display for Unfillable {
+    ghost use Rattle.std.specs.Prelude.{Some};
+    ghost use Rattle.book.specs.Texts.{unfillable_text};
+
+    ghost output = { λ _. Some unfillable_text };
+
+    fn fmt<W: fmt::Write>(&self, f: &mut fmt::Formatter<W>) -> fmt::Result {
+        f.write_str("unfillable: no division of the shares fills every order that must execute")
+    }
+}
+
+impl Error for Unfillable {}
 
 /// How far a side is filled: its first `whole` classes get all, and the class after them what is `left`.
 #[derive(Clone, Copy, PartialEq, Eq, Debug)]
@@ -26,7 +42,7 @@ pub struct Plan {
 }
 
 /// What an order's class gets.
-#[derive(Clone, Copy)]
+#[derive(Clone, Copy, PartialEq, Eq, Debug)]
 pub(crate) enum Part {
     /// Its whole size.
     Whole,
@@ -64,16 +80,9 @@ impl Cut {
         ensures value { result ≡ part self.whole self.left rank }
     {
         match rank {
-            None => Part::Nothing,
-            Some(rank) => {
-                if rank < self.whole {
-                    Part::Whole
-                } else if rank == self.whole && 0 < self.left {
-                    Part::Shared
-                } else {
-                    Part::Nothing
-                }
-            }
+            Some(rank) if rank < self.whole => Part::Whole,
+            Some(rank) if rank == self.whole && 0 < self.left => Part::Shared,
+            _ => Part::Nothing,
         }
     }
 }

@@ -45,12 +45,12 @@ held_to_nothing Sell limit = false
 
 abbrev passes : Example → Bool
 passes (has_reference last quote p) = eqb (reference last quote) p
-passes (is_out row p last) = out (standing_of row p last)
+passes (is_out row terms) = out (standing_of row terms)
 passes (is_always_out row last) = held_to_nothing row.side (effective row last)
-passes (trade rows p last v) = not (unfillable (entries p last rows)) && eqb (traded (entries p last rows)) v
-passes (are_unfillable rows p last) = unfillable (entries p last rows)
-passes (are_filled rows p last fills) = same (fills_of (entries p last rows) (gifts_of arrival (entries p last rows))) fills
-passes (have_imbalance rows p last n) = same_amount (amount_of rows p last) n
+passes (trade rows terms v) = not (unfillable (entries terms rows)) && eqb (traded (entries terms rows)) v
+passes (are_unfillable rows terms) = unfillable (entries terms rows)
+passes (are_filled rows terms fills) = same (fills_of (entries terms rows) (gifts_of arrival (entries terms rows))) fills
+passes (have_imbalance rows terms n) = same_amount (amount_of rows terms) n
 passes (shared_by_arrival amount claims gifts) = same (arrival amount claims) gifts
 passes (shared_by_turns amount claims gifts) = same (turns amount claims) gifts
 
@@ -82,12 +82,12 @@ always_out Sell limit e p h = absurd (true≢false (sym e))
 
 holds : (e : Example) → passes e ≡ true → Holds e
 holds (has_reference last quote p) t = eqb-true _ p t
-holds (is_out row p last) t = out_is _ t
+holds (is_out row terms) t = out_is _ t
 holds (is_always_out row last) t = always_out row.side (effective row last) t
-holds (trade rows p last v) t = let both = and_parts _ _ t in subst (Largest (entries p last rows)) (eqb-true _ v both.1) (largest (entries p last rows) (not-true _ both.0))
-holds (are_unfillable rows p last) t = none (entries p last rows) t
-holds (are_filled rows p last fills) t = same_is _ fills t
-holds (have_imbalance rows p last n) t = same_amount_is _ n t
+holds (trade rows terms v) t = let both = and_parts _ _ t in subst (Largest (entries terms rows)) (eqb-true _ v both.1) (largest (entries terms rows) (not-true _ both.0))
+holds (are_unfillable rows terms) t = none (entries terms rows) t
+holds (are_filled rows terms fills) t = same_is _ fills t
+holds (have_imbalance rows terms n) t = same_amount_is _ n t
 holds (shared_by_arrival amount claims gifts) t = same_is _ gifts t
 holds (shared_by_turns amount claims gifts) t = same_is _ gifts t
 

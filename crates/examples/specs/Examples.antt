@@ -4,6 +4,7 @@ use Rattle.order.specs.declared.kind.Row.{Row}
 use Rattle.order.specs.declared.limit.Standing.TheVariants.{Out}
 use Rattle.order.specs.declared.sale.Sale.{Sale}
 use Rattle.order.specs.declared.sale.Quote.{Quote}
+use Rattle.order.specs.declared.terms.Terms.{Terms}
 use Rattle.order.specs.Limits.{standing_of}
 use Rattle.order.specs.Sales.{reference}
 use Rattle.sharing.specs.Arrival.{arrival}
@@ -17,30 +18,30 @@ use Rattle.book.specs.Theorem.{NoAssignment, Largest}
 pub data Example : Type 0 where
   -- a last sale and a quote have a reference price
   has_reference : ℕ → Quote → ℕ → Example
-  -- a row is out at a price after the last sale
-  is_out : Row → ℕ → Sale → Example
-  -- it is out at every price
+  -- a row is out on these terms
+  is_out : Row → Terms → Example
+  -- it is out at every price after the last sale
   is_always_out : Row → Sale → Example
-  -- rows trade a volume at a price after the last sale
-  trade : List Row → ℕ → Sale → ℕ → Example
+  -- rows trade a volume on these terms
+  trade : List Row → Terms → ℕ → Example
   -- they are unfillable
-  are_unfillable : List Row → ℕ → Sale → Example
+  are_unfillable : List Row → Terms → Example
   -- shared by arrival, each of them is filled so far
-  are_filled : List Row → ℕ → Sale → List ℕ → Example
-  -- they have an imbalance at the reference price
-  have_imbalance : List Row → ℕ → Sale → ℤ → Example
+  are_filled : List Row → Terms → List ℕ → Example
+  -- they have an imbalance on terms whose price is the reference price
+  have_imbalance : List Row → Terms → ℤ → Example
   -- an amount shared among claims by arrival, and by turns
   shared_by_arrival : ℕ → List ℕ → List ℕ → Example
   shared_by_turns : ℕ → List ℕ → List ℕ → Example
 
 abbrev pub Holds : Example → Type 0
 Holds (has_reference last quote p) = reference last quote ≡ p
-Holds (is_out row p last) = standing_of row p last ≡ Out
-Holds (is_always_out row last) = (p : ℕ) → 1 ≤ p → standing_of row p last ≡ Out
-Holds (trade rows p last v) = Largest (entries p last rows) v
-Holds (are_unfillable rows p last) = NoAssignment (entries p last rows)
-Holds (are_filled rows p last fills) = fills_of (entries p last rows) (gifts_of arrival (entries p last rows)) ≡ fills
-Holds (have_imbalance rows p last n) = amount_of rows p last ≡ n
+Holds (is_out row terms) = standing_of row terms ≡ Out
+Holds (is_always_out row last) = (p : ℕ) → 1 ≤ p → standing_of row (record { price = p; sale = last }) ≡ Out
+Holds (trade rows terms v) = Largest (entries terms rows) v
+Holds (are_unfillable rows terms) = NoAssignment (entries terms rows)
+Holds (are_filled rows terms fills) = fills_of (entries terms rows) (gifts_of arrival (entries terms rows)) ≡ fills
+Holds (have_imbalance rows terms n) = amount_of rows terms ≡ n
 Holds (shared_by_arrival amount claims gifts) = arrival amount claims ≡ gifts
 Holds (shared_by_turns amount claims gifts) = turns amount claims ≡ gifts
 

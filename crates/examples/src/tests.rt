@@ -1,27 +1,17 @@
 // The code run on examples: reference prices, imbalances, refusals, and a row that fails its check.
 use book::{FillFault, fill, imbalance_at};
 use list::List;
-use order::{Kind, Quote, Row, Sale, Side, Tick, reference_price};
+use order::{Kind, Quote, Row, Sale, Side, Terms, Tick, reference_price};
 use sharing::ByArrival;
 use std::test::Fail;
 
-const SALE: Sale = Sale {
+const TERMS: Terms = Terms {
     price: 1500,
-    tick: Tick::Plus,
+    sale: Sale {
+        price: 1500,
+        tick: Tick::Plus,
+    },
 };
-
-/// An unmarked order of which no share is filled.
-fn unfilled(kind: Kind, side: Side, price: u32, size: u32) -> Row {
-    Row {
-        number: 1,
-        kind,
-        side,
-        marked: false,
-        price,
-        size,
-        filled: 0,
-    }
-}
 
 #[test]
 fn reference_prices(rt: HostRuntime) {
@@ -43,31 +33,28 @@ fn imbalances(rt: HostRuntime) -> Result<(), Fail> {
         (Side::Sell, Side::Buy, 4_950, -50_100),
         (Side::Sell, Side::Buy, 99_900, 0),
     ] {
-        let mut places = [unfilled(Kind::MarketOnClose, larger, 0, 60_099); 3];
+        let mut places = [Row::unfilled(1, Kind::MarketOnClose, larger, false, 0, 60_099); 3];
         let mut rows = List::new(&mut places);
-        rows.push(unfilled(Kind::MarketOnClose, larger, 0, 60_099))?;
-        rows.push(unfilled(Kind::MarketOnClose, smaller, 0, 5_000))?;
-        rows.push(unfilled(Kind::LimitOnClose, smaller, 1500, limit))?;
-        assert_eq!(rt; imbalance_at(&rows, 1500, SALE), wanted);
+        rows.push(Row::unfilled(1, Kind::MarketOnClose, larger, false, 0, 60_099))?;
+        rows.push(Row::unfilled(1, Kind::MarketOnClose, smaller, false, 0, 5_000))?;
+        rows.push(Row::unfilled(1, Kind::LimitOnClose, smaller, false, 1500, limit))?;
+        assert_eq!(rt; imbalance_at(&rows, TERMS), wanted);
     }
     Ok(())
 }
 
 #[test]
 fn refusals(rt: HostRuntime) -> Result<(), Fail> {
-    let mut places = [unfilled(Kind::MarketOnClose, Side::Buy, 0, 100); 1];
+    let mut places = [Row::unfilled(1, Kind::MarketOnClose, Side::Buy, false, 0, 100); 1];
     let mut rows = List::new(&mut places);
-    assert_eq!(rt;
-        fill(&mut rows, 1500, SALE, &ByArrival, &mut [], &mut []),
-        Ok(0)
-    );
-    rows.push(unfilled(Kind::MarketOnClose, Side::Buy, 0, 100))?;
+    assert_eq!(rt; fill(&mut rows, TERMS, &ByArrival, &mut [], &mut []), Ok(0));
+    rows.push(Row::unfilled(1, Kind::MarketOnClose, Side::Buy, false, 0, 100))?;
     let mut gifts = [7];
-    let refused = fill(&mut rows, 1500, SALE, &ByArrival, &mut [], &mut gifts);
+    let refused = fill(&mut rows, TERMS, &ByArrival, &mut [], &mut gifts);
     assert_eq!(rt; refused, Err(FillFault::NoPlace));
     assert_eq!(rt; FillFault::NoPlace.question(), 20);
     let mut claims = [8];
-    let refused = fill(&mut rows, 1500, SALE, &ByArrival, &mut claims, &mut gifts);
+    let refused = fill(&mut rows, TERMS, &ByArrival, &mut claims, &mut gifts);
     assert_eq!(rt; refused, Err(FillFault::Unfillable));
     assert_eq!(rt; FillFault::Unfillable.question(), 21);
     assert_eq!(rt; (claims[0], gifts[0]), (8, 7));
@@ -79,16 +66,16 @@ fn refusals(rt: HostRuntime) -> Result<(), Fail> {
 fn row_that_fails_its_check(rt: HostRuntime) -> Result<(), Fail> {
     let wrong = Row {
         filled: 101,
-        ..unfilled(Kind::MarketOnClose, Side::Sell, 0, 100)
+        ..Row::unfilled(1, Kind::MarketOnClose, Side::Sell, false, 0, 100)
     };
     let mut places = [wrong; 3];
     let mut rows = List::new(&mut places);
-    rows.push(unfilled(Kind::MarketOnClose, Side::Buy, 0, 100))?;
+    rows.push(Row::unfilled(1, Kind::MarketOnClose, Side::Buy, false, 0, 100))?;
     rows.push(wrong)?;
-    rows.push(unfilled(Kind::Book, Side::Sell, 1500, 300))?;
+    rows.push(Row::unfilled(1, Kind::Book, Side::Sell, false, 1500, 300))?;
     let mut claims = [9; 4];
     let mut gifts = [9; 4];
-    let volume = fill(&mut rows, 1500, SALE, &ByArrival, &mut claims, &mut gifts);
+    let volume = fill(&mut rows, TERMS, &ByArrival, &mut claims, &mut gifts);
     assert_eq!(rt; volume, Ok(100));
     assert!(rt; claims == [0, 0, 300, 9]);
     assert!(rt; gifts == [0, 0, 100, 9]);

@@ -3,7 +3,7 @@ use book::fill;
 use list::List;
 use order::Kind::*;
 use order::Side::*;
-use order::{Kind, Row, Sale, Side, Tick};
+use order::{Kind, Row, Sale, Side, Terms, Tick};
 use sharing::{ByArrival, ByTurns, Sharing};
 use std::process::Abort;
 use std::test::Fail;
@@ -12,7 +12,7 @@ use std::test::Fail;
 type Line = (u32, Kind, Side, bool, u32, u32, u32);
 
 /// A close: the last sale, on a plus tick, the price, the volume, and the orders after the first four.
-#[derive(Clone, Copy)]
+#[derive(Clone, Copy, PartialEq, Eq, Debug)]
 struct Close {
     last: u32,
     price: u32,
@@ -133,25 +133,16 @@ const BY_ARRIVAL: [(usize, u32, u32); 4] = [(2, 8, 50_000), (2, 11, 0), (5, 8, 5
 /// The order of a line, of which no share is filled.
 fn unfilled(line: Line) -> Row {
     let (number, kind, side, marked, price, size, _) = line;
-    Row {
-        number,
-        kind,
-        side,
-        marked,
-        price,
-        size,
-        filled: 0,
-    }
+    Row::unfilled(number, kind, side, marked, price, size)
 }
 
 /// The filled shares that are wanted of a line of a close: those of the filing, or the other ones.
 fn wanted(close: usize, line: Line, others: &[(usize, u32, u32)]) -> u32 {
-    for (other, number, filled) in others {
-        if *other == close && *number == line.0 {
-            return *filled;
-        }
-    }
-    line.6
+    let (order, .., filled) = line;
+    others
+        .iter()
+        .find(|(other, number, _)| *other == close && *number == order)
+        .map_or(filled, |(_, _, filled)| *filled)
 }
 
 /// Fills a close by a method, and compares the volume and each order's filled shares.
@@ -167,19 +158,15 @@ fn check_close<S: Sharing>(
     for line in FIRST.iter().chain(close.orders.iter()) {
         rows.push(unfilled(*line))?;
     }
-    let sale = Sale {
-        price: close.last,
-        tick: Tick::Plus,
+    let terms = Terms {
+        price: close.price,
+        sale: Sale {
+            price: close.last,
+            tick: Tick::Plus,
+        },
     };
-    let volume = fill(
-        &mut rows,
-        close.price,
-        sale,
-        method,
-        &mut [0; MOST],
-        &mut [0; MOST],
-    );
-    assert_eq!(rt; volume.ok(), Some(close.volume), "close {number}");
+    let volume = fill(&mut rows, terms, method, &mut [0; MOST], &mut [0; MOST]);
+    assert_eq!(rt; volume, Ok(close.volume), "close {number}");
     for (row, line) in rows
         .elements()
         .iter()

@@ -1,5 +1,5 @@
 -- The seven classes, and the class of an order at a price. Assumes nothing.
-use Rattle.std.specs.Prelude.{ℕ, Bool, true, false, cond, Some, None, Option}
+use Rattle.std.specs.Prelude.{ℕ, Bool, true, false, if◌then◌else◌, Some, None, Option}
 use Rattle.order.specs.declared.class.Class.{Class}
 use Rattle.order.specs.declared.class.Class.TheVariants.{MustExecute, BookAt, LimitAt, MarkedMarketAt, MarkedLimitAt, YieldingIn, OffsetIn}
 use Rattle.order.specs.declared.kind.Kind.{Kind}
@@ -7,7 +7,7 @@ use Rattle.order.specs.declared.kind.Kind.TheVariants.{MarketOnClose, Crowd, Lim
 use Rattle.order.specs.declared.kind.Row.{Row}
 use Rattle.order.specs.declared.limit.Standing.{Standing}
 use Rattle.order.specs.declared.limit.Standing.TheVariants.{Better, At, Out}
-use Rattle.order.specs.declared.sale.Sale.{Sale}
+use Rattle.order.specs.declared.terms.Terms.{Terms}
 use Rattle.order.specs.Limits.{standing_of, elected}
 
 -- the number of a class, which is its rank: a class is filled before those of higher number
@@ -37,8 +37,8 @@ class_by Book marked st el = placed st MustExecute BookAt
 class_by MarketMaker marked st el = placed st BookAt BookAt
 class_by ClosingOffset marked st el = placed st OffsetIn OffsetIn
 class_by Yielding marked st el = placed st YieldingIn YieldingIn
-class_by Stop marked st el = cond el (Some MustExecute) None
+class_by Stop marked st el = (if el then Some MustExecute else None)
 
--- the class of an order at the price p, or none. The last class, of closing offset orders, is open to the lighter side only
-abbrev pub class_of : Row → ℕ → Sale → Option Class
-class_of r p last = class_by r.kind r.marked (standing_of r p last) (elected r.side r.price p)
+-- the class of an order on these terms, or none. The last class, of closing offset orders, is open to the lighter side only
+abbrev pub class_of : Row → Terms → Option Class
+class_of r terms = class_by r.kind r.marked (standing_of r terms) (elected r.side r.price terms.price)

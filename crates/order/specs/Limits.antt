@@ -1,5 +1,5 @@
 -- The effective limit of an order, and how it stands to a price. Assumes nothing.
-use Rattle.std.specs.Prelude.{ℕ, ◌+◌, ◌-◌, min, max, Bool, true, false, cond, Some, None, Option, ◌==◌, nat_le, nat_lt}
+use Rattle.std.specs.Prelude.{ℕ, ◌+◌, ◌-◌, min, max, Bool, true, false, if◌then◌else◌, Some, None, Option, ◌==◌, nat_le, nat_lt}
 use Rattle.order.specs.declared.kind.Kind.{Kind}
 use Rattle.order.specs.declared.kind.Kind.TheVariants.{MarketOnClose, Crowd, LimitOnClose, Book, MarketMaker, ClosingOffset, Yielding, Stop}
 use Rattle.order.specs.declared.kind.Row.{Row}
@@ -10,6 +10,7 @@ use Rattle.order.specs.declared.limit.Standing.TheVariants.{Better, At, Out}
 use Rattle.order.specs.declared.sale.Tick.{Tick}
 use Rattle.order.specs.declared.sale.Tick.TheVariants.{Plus, Minus}
 use Rattle.order.specs.declared.sale.Sale.{Sale}
+use Rattle.order.specs.declared.terms.Terms.{Terms}
 
 -- the tick bound. Of a marked sell: the last sale on a plus tick, one cent more on a minus tick. Of a marked buy: the last sale on a minus
 -- tick, one cent less on a plus tick; it may be 0, which no price meets
@@ -35,7 +36,7 @@ limit_by LimitOnClose false side entered b = Some entered
 limit_by Book marked side entered b = Some entered
 limit_by MarketMaker marked side entered b = Some entered
 limit_by ClosingOffset marked side entered b = Some entered
-limit_by Yielding marked side entered b = cond (entered == 0) None (Some entered)
+limit_by Yielding marked side entered b = (if entered == 0 then None else Some entered)
 limit_by Stop marked side entered b = None
 
 abbrev pub effective : Row → Sale → Option ℕ
@@ -43,16 +44,16 @@ effective r last = limit_by r.kind r.marked r.side r.price (bound r.side last.ti
 
 -- a buy is better when its limit is above the price, at when equal, out when below; a sell is the mirror image
 abbrev pub stands : Side → ℕ → ℕ → Standing
-stands Buy limit p = cond (nat_lt p limit) Better (cond (limit == p) At Out)
-stands Sell limit p = cond (nat_lt limit p) Better (cond (limit == p) At Out)
+stands Buy limit p = (if nat_lt p limit then Better else (if limit == p then At else Out))
+stands Sell limit p = (if nat_lt limit p then Better else (if limit == p then At else Out))
 
 -- without a limit an order is better than every price
 abbrev pub standing_by : Side → Option ℕ → ℕ → Standing
 standing_by side None p = Better
 standing_by side (Some limit) p = stands side limit p
 
-abbrev pub standing_of : Row → ℕ → Sale → Standing
-standing_of r p last = standing_by r.side (effective r last) p
+abbrev pub standing_of : Row → Terms → Standing
+standing_of r terms = standing_by r.side (effective r terms.sale) terms.price
 
 -- a buy stop is elected when the price is at or above its trigger, a sell stop when it is at or below
 abbrev pub elected : Side → ℕ → ℕ → Bool

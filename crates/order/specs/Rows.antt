@@ -1,7 +1,8 @@
 -- Rows and orders: which rows are orders, and the row of an order. Assumes nothing.
-use Rattle.std.specs.Prelude.{ℕ, Bool, ◌&&◌, nat_le}
+use Rattle.std.specs.Prelude.{◌≡◌, ℕ, Bool, true, false, ◌&&◌, Result, MatchResult, nat_le}
 use Rattle.order.specs.declared.kind.Row.{Row}
 use Rattle.order.specs.declared.record.Order.{Order}
+use Rattle.order.specs.declared.record.Unsound.{Unsound}
 use Rattle.order.specs.Kinds.{is_size, priced, marks}
 
 -- a row passes the check: its size is within its limits, it is filled no further than that, and its price and its mark are in keeping
@@ -11,8 +12,12 @@ sound r = is_size r.size && nat_le r.filled r.size && priced r.kind r.price && m
 
 -- the row of an order
 abbrev pub row_of : Order → Row
-row_of o = record { number = o.number; kind = o.kind; side = o.side; marked = o.marked; price = o.price; size = o.size; filled = o.filled }
+row_of o = o.row
+
+-- an order is made from a row just where the row passes the check, and it is the order of that row
+abbrev pub MadeFrom : Row → Result Order Unsound → Type 0
+MadeFrom row r = MatchResult r (λ order. (sound row ≡ true) × (row_of order ≡ row)) (λ _. sound row ≡ false)
 
 -- the same row with other filled shares
 abbrev pub refilled : Row → ℕ → Row
-refilled r n = record { number = r.number; kind = r.kind; side = r.side; marked = r.marked; price = r.price; size = r.size; filled = n }
+refilled r n = record r { filled = n }

@@ -1,5 +1,5 @@
 -- The last sale with its tick, and the reference price. Assumes nothing.
-use Rattle.std.specs.Prelude.{ℕ, cond, not, ◌&&◌, Some, None, Option, ◌==◌, nat_lt}
+use Rattle.std.specs.Prelude.{ℕ, if◌then◌else◌, not, ◌&&◌, Some, None, Option, ◌==◌, nat_lt}
 use Rattle.order.specs.declared.sale.Tick.{Tick}
 use Rattle.order.specs.declared.sale.Tick.TheVariants.{Plus, Minus}
 use Rattle.order.specs.declared.sale.Sale.{Sale}
@@ -8,7 +8,7 @@ use Rattle.order.specs.declared.sale.Quote.{Quote}
 -- the first sale is a plus tick; a later one is plus if above the sale before, minus if below, and an equal one keeps the tick
 abbrev pub tick_after : Option Sale → ℕ → Tick
 tick_after None p = Plus
-tick_after (Some before) p = cond (nat_lt before.price p) Plus (cond (nat_lt p before.price) Minus before.tick)
+tick_after (Some before) p = (if nat_lt before.price p then Plus else (if nat_lt p before.price then Minus else before.tick))
 
 -- the last sale once there was one at p
 abbrev pub sale_after : Option Sale → ℕ → Sale
@@ -17,4 +17,4 @@ sale_after before p = record { price = p; tick = tick_after before p }
 -- the reference price: the last sale, but the bid if the last sale is below it, and the offer if the last sale is above it; a bid or an
 -- offer of 0 is absent
 abbrev pub reference : ℕ → Quote → ℕ
-reference last q = cond (nat_lt last q.bid) q.bid (cond (not (q.offer == 0) && nat_lt q.offer last) q.offer last)
+reference last q = (if nat_lt last q.bid then q.bid else (if not (q.offer == 0) && nat_lt q.offer last then q.offer else last))

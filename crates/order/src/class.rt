@@ -9,19 +9,19 @@ use crate::limit::Standing;
 #[derive(Clone, Copy, PartialEq, Eq, Debug)]
 pub enum Class {
     /// 0, must execute: unmarked M, elected S, C; marked M, L and B when better.
-    MustExecute,
+    MustExecute = 0,
     /// 1: B at; D better or at.
-    BookAt,
+    BookAt = 1,
     /// 2: unmarked L at.
-    LimitAt,
+    LimitAt = 2,
     /// 3: marked M at.
-    MarkedMarketAt,
+    MarkedMarketAt = 3,
     /// 4: marked L at.
-    MarkedLimitAt,
+    MarkedLimitAt = 4,
     /// 5: G at the market, better or at.
-    YieldingIn,
+    YieldingIn = 5,
     /// 6: O better or at, on the lighter side only.
-    OffsetIn,
+    OffsetIn = 6,
 }
 
 impl Class {
@@ -29,15 +29,7 @@ impl Class {
     pub fn rank(self) -> usize
         ensures value { result ≡ rank_of self }
     {
-        match self {
-            Class::MustExecute => 0,
-            Class::BookAt => 1,
-            Class::LimitAt => 2,
-            Class::MarkedMarketAt => 3,
-            Class::MarkedLimitAt => 4,
-            Class::YieldingIn => 5,
-            Class::OffsetIn => 6,
-        }
+        self as usize
     }
 }
 
@@ -53,6 +45,7 @@ fn place(standing: Standing, better: Class, at: Class) -> Option<Class>
 }
 
 /// The class of an order by its kind and mark, how it stands to the price and, for a stop, whether it is elected.
+// Standing and election are two parameters: one type for both would have to be made by kind, which the table below does already.
 pub(crate) fn class_by(
     kind: Kind,
     marked: bool,
@@ -70,12 +63,6 @@ pub(crate) fn class_by(
         (Kind::MarketMaker, _) => place(standing, Class::BookAt, Class::BookAt),
         (Kind::ClosingOffset, _) => place(standing, Class::OffsetIn, Class::OffsetIn),
         (Kind::Yielding, _) => place(standing, Class::YieldingIn, Class::YieldingIn),
-        (Kind::Stop, _) => {
-            if is_elected {
-                Some(Class::MustExecute)
-            } else {
-                None
-            }
-        }
+        (Kind::Stop, _) => is_elected.then_some(Class::MustExecute),
     }
 }

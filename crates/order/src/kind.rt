@@ -1,6 +1,9 @@
 // The kinds and sides of orders, the limits of their numbers, and a plain row.
-ghost use Rattle.std.specs.Prelude.{◌≡◌};
-ghost use Rattle.order.specs.Kinds.{kind_letter, side_letter, is_price, is_size, priced, on_close, marks};
+ghost use Rattle.std.specs.Prelude.{◌≡◌, [], ◌∷◌, Some};
+ghost use Rattle.order.specs.Kinds.{kind_letter, side_letter, priced, on_close, marks};
+ghost use Rattle.order.specs.Entered.{unfilled_row};
+
+use std::fmt;
 
 /// The highest price, in cents. The lowest is 1.
 pub const MAX_PRICE: u32 = 9_999_999;
@@ -45,9 +48,27 @@ pub struct Row {
     /// Sell Plus or Buy Minus.
     pub marked: bool,
     /// A limit or a trigger in cents, or 0.
+    // 0 and no `Option`: the rule's own price field holds 0 at the market, and a row holds what came in.
     pub price: u32,
     pub size: u32,
     pub filled: u32,
+}
+
+impl Row {
+    /// The row of an order of which no share is filled.
+    pub fn unfilled(number: u32, kind: Kind, side: Side, marked: bool, price: u32, size: u32) -> Row
+        ensures value { result ≡ unfilled_row number kind side marked price size }
+    {
+        Row {
+            number,
+            kind,
+            side,
+            marked,
+            price,
+            size,
+            filled: 0,
+        }
+    }
 }
 
 impl Kind {
@@ -55,6 +76,7 @@ impl Kind {
     pub fn letter(self) -> u8
         ensures value { result ≡ kind_letter self }
     {
+        // A match and no cast: as the variant's own number a letter would be written `b'M' as isize`.
         match self {
             Kind::MarketOnClose => b'M',
             Kind::Crowd => b'C',
@@ -71,14 +93,15 @@ impl Kind {
     pub fn takes_price(self, price: u32) -> bool
         ensures value { result ≡ priced self price }
     {
+        let is_price = (1..=MAX_PRICE).contains(&price);
         match self {
             Kind::MarketOnClose | Kind::Crowd => price == 0,
             Kind::LimitOnClose
             | Kind::Book
             | Kind::MarketMaker
             | Kind::ClosingOffset
-            | Kind::Stop => within_prices(price),
-            Kind::Yielding => price == 0 || within_prices(price),
+            | Kind::Stop => is_price,
+            Kind::Yielding => price == 0 || is_price,
         }
     }
 
@@ -93,10 +116,17 @@ impl Kind {
     pub fn is_on_close(self) -> bool
         ensures value { result ≡ on_close self }
     {
-        match self {
-            Kind::MarketOnClose | Kind::LimitOnClose => true,
-            _ => false,
-        }
+        matches!(self, Kind::MarketOnClose | Kind::LimitOnClose)
+    }
+}
+
+// By hand: a derived text has no contract.
+impl fmt::Display for Kind {
+    ghost output = { λ kind. Some (kind_letter kind ∷ []) };
+
+    fn fmt<W: fmt::Write>(&self, f: &mut fmt::Formatter<W>) -> fmt::Result {
+        let kind = char::from(self.letter());
+        fmt::Display::fmt(&kind, f)
     }
 }
 
@@ -105,6 +135,7 @@ impl Side {
     pub fn letter(self) -> u8
         ensures value { result ≡ side_letter self }
     {
+        // A match and no cast, as for a kind.
         match self {
             Side::Buy => b'B',
             Side::Sell => b'S',
@@ -112,16 +143,11 @@ impl Side {
     }
 }
 
-/// Whether `price` is within its limits.
-pub(crate) fn within_prices(price: u32) -> bool
-    ensures value { result ≡ is_price price }
-{
-    1 <= price && price <= MAX_PRICE
-}
+impl fmt::Display for Side {
+    ghost output = { λ side. Some (side_letter side ∷ []) };
 
-/// Whether `size` is within its limits.
-pub(crate) fn within_sizes(size: u32) -> bool
-    ensures value { result ≡ is_size size }
-{
-    1 <= size && size <= MAX_SIZE
+    fn fmt<W: fmt::Write>(&self, f: &mut fmt::Formatter<W>) -> fmt::Result {
+        let side = char::from(self.letter());
+        fmt::Display::fmt(&side, f)
+    }
 }

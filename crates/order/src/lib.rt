@@ -6,9 +6,11 @@ mod kind;
 mod limit;
 mod record;
 mod sale;
+mod terms;
 
 pub use class::Class;
 pub use kind::{Kind, MAX_PRICE, MAX_SIZE, Row, Side};
 pub use limit::Standing;
-pub use record::Order;
+pub use record::{Order, Unsound};
 pub use sale::{Quote, Sale, Tick, next_sale, reference_price};
+pub use terms::Terms;

@@ -1,10 +1,11 @@
 // The effective limit of an order, and how it stands to a price.
-ghost use Rattle.std.specs.Prelude.{◌≡◌, if◌then◌else◌};
-ghost use Rattle.order.specs.declared.limit.Standing.TheVariants.{Better, At, Out};
+ghost use Rattle.std.specs.Prelude.{◌≡◌};
 ghost use Rattle.order.specs.Limits.{bound, stricter, effective, stands, standing_of, elected};
 
 use crate::kind::{Kind, Row, Side};
 use crate::sale::{Sale, Tick};
+use crate::terms::Terms;
+use std::cmp::Ordering;
 
 /// How an order stands to a price.
 #[derive(Clone, Copy, PartialEq, Eq, Debug)]
@@ -36,7 +37,7 @@ fn stricter_of(side: Side, a: u64, b: u64) -> u64
     }
 }
 
-/// The effective limit of the order in `row`, or none where it has no limit.
+/// The effective limit of the order in `row` after the last sale, or none where it has no limit.
 fn effective_limit(row: Row, sale: Sale) -> Option<u64>
     ensures value { result ≡ effective row sale }
 {
@@ -50,7 +51,7 @@ fn effective_limit(row: Row, sale: Sale) -> Option<u64>
         | (Kind::Book, _)
         | (Kind::MarketMaker, _)
         | (Kind::ClosingOffset, _) => Some(entered),
-        (Kind::Yielding, _) => { if row.price == 0 { None } else { Some(entered) } }
+        (Kind::Yielding, _) => (row.price != 0).then_some(entered),
     }
 }
 
@@ -58,33 +59,24 @@ fn effective_limit(row: Row, sale: Sale) -> Option<u64>
 fn stands_at(side: Side, limit: u64, price: u64) -> Standing
     ensures value { result ≡ stands side limit price }
 {
-    match side {
-        Side::Buy => standing_by(price < limit, limit == price),
-        Side::Sell => standing_by(limit < price, limit == price),
+    let order = match side {
+        Side::Buy => limit.cmp(&price),
+        Side::Sell => price.cmp(&limit),
+    };
+    match order {
+        Ordering::Greater => Standing::Better,
+        Ordering::Equal => Standing::At,
+        Ordering::Less => Standing::Out,
     }
 }
 
-/// Better or at, where one of them is so, and else out.
-fn standing_by(better: bool, at: bool) -> Standing
-    ensures value { result ≡ (if better then Better else (if at then At else Out)) }
+/// How the order in `row` stands on these terms. Without a limit it is better.
+pub(crate) fn standing_at(row: Row, terms: Terms) -> Standing
+    ensures value { result ≡ standing_of row terms }
 {
-    if better {
-        Standing::Better
-    } else if at {
-        Standing::At
-    } else {
-        Standing::Out
-    }
-}
-
-/// How the order in `row` stands to `price`. Without a limit it is better.
-pub(crate) fn standing_at(row: Row, price: u32, sale: Sale) -> Standing
-    ensures value { result ≡ standing_of row price sale }
-{
-    match effective_limit(row, sale) {
-        None => Standing::Better,
-        Some(limit) => stands_at(row.side, limit, u64::from(price)),
-    }
+    effective_limit(row, terms.sale).map_or(Standing::Better, |limit| {
+        stands_at(row.side, limit, u64::from(terms.price))
+    })
 }
 
 /// Whether a stop is elected at `price`.

@@ -1,12 +1,28 @@
 // The last sale with its tick, the quote, and the reference price.
-ghost use Rattle.std.specs.Prelude.{◌≡◌};
+ghost use Rattle.std.specs.Prelude.{◌≡◌, Some};
 ghost use Rattle.order.specs.Sales.{sale_after, tick_after, reference};
+ghost use Rattle.order.specs.Texts.{tick_text};
+
+use std::cmp::Ordering;
+use std::fmt;
 
 /// Whether the last change of price was up or down. The first sale counts as up.
 #[derive(Clone, Copy, PartialEq, Eq, Debug)]
 pub enum Tick {
     Plus,
     Minus,
+}
+
+// By hand: a derived text has no contract.
+impl fmt::Display for Tick {
+    ghost output = { λ tick. Some (tick_text tick) };
+
+    fn fmt<W: fmt::Write>(&self, f: &mut fmt::Formatter<W>) -> fmt::Result {
+        f.write_str(match self {
+            Tick::Plus => "plus",
+            Tick::Minus => "minus",
+        })
+    }
 }
 
 /// A sale, its price in cents.
@@ -17,6 +33,7 @@ pub struct Sale {
 }
 
 /// The bid and the offer, in cents. One of 0 is absent.
+// 0 and no `Option`: the rule itself says so of 0, and a quote holds what came in.
 #[derive(Clone, Copy, PartialEq, Eq, Debug)]
 pub struct Quote {
     pub bid: u32,
@@ -34,17 +51,13 @@ pub fn next_sale(before: Option<Sale>, price: u32) -> Sale
 fn next_tick(before: Option<Sale>, price: u32) -> Tick
     ensures value { result ≡ tick_after before price }
 {
-    match before {
-        None => Tick::Plus,
-        Some(before) => {
-            if before.price < price {
-                Tick::Plus
-            } else if price < before.price {
-                Tick::Minus
-            } else {
-                before.tick
-            }
-        }
+    let Some(before) = before else {
+        return Tick::Plus;
+    };
+    match price.cmp(&before.price) {
+        Ordering::Greater => Tick::Plus,
+        Ordering::Less => Tick::Minus,
+        Ordering::Equal => before.tick,
     }
 }
 

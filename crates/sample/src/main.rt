@@ -6,72 +6,47 @@ mod table;
 
 use order::MAX_PRICE;
 use std::process::ExitCode;
-use std::{env, fmt, io};
+use std::rt::Env;
+use std::{env, io};
 use table::print_table;
+use thiserror::Error;
 
 /// The price where no argument is given, in cents.
 const USUAL_PRICE: u32 = 2002;
 
 /// Why there is no table.
-#[derive(Drop)]
+#[derive(Debug, Drop, Error)]
 enum Trouble {
+    #[error("the price is one number of cents, from 1 to {MAX_PRICE}\nusage: sample [PRICE]  (the price is {USUAL_PRICE} without one)")]
     Argument,
+    #[error("no input: {0}")]
     Input(io::Error),
+    #[error("no output: {0}")]
     Output(io::Error),
-}
-
-impl fmt::Display for Trouble {
-    fn fmt<W: fmt::Write>(&self, f: &mut fmt::Formatter<W>) -> fmt::Result {
-        match self {
-            Trouble::Argument => {
-                write!(
-                    f,
-                    "the price is one number of cents, from 1 to {MAX_PRICE}\nusage: sample [PRICE]  (the price is {USUAL_PRICE} without one)"
-                )
-            }
-            Trouble::Input(error) => write!(f, "no input: {error}"),
-            Trouble::Output(error) => write!(f, "no output: {error}"),
-        }
-    }
 }
 
 /// The price that a word says, or none. A sign has no meaning in a price.
 fn price_in(word: &str) -> Option<u32> {
-    if word.starts_with('+') {
-        return None;
-    }
-    match word.parse::<u32>() {
-        Ok(price) if 1 <= price && price <= MAX_PRICE => Some(price),
-        _ => None,
-    }
+    let price = word.parse::<u32>().ok()?;
+    (!word.starts_with('+') && (1..=MAX_PRICE).contains(&price)).then_some(price)
 }
 
 /// The price that the arguments ask, or the usual one where there is none.
-fn asked_price(rt: &HostRuntime) -> Result<u32, Trouble> {
-    let mut words = match env::args(rt) {
-        Ok(words) => words.skip(1),
-        Err(error) => return Err(Trouble::Input(error)),
-    };
-    let Some(word) = words.next() else {
-        return Ok(USUAL_PRICE);
-    };
-    if words.next().is_some() {
-        return Err(Trouble::Argument);
-    }
-    match price_in(word.as_str()) {
-        Some(price) => Ok(price),
-        None => Err(Trouble::Argument),
+fn asked_price(rt: &(impl Env + Alloc)) -> Result<u32, Trouble> {
+    let mut words = env::args(rt).map_err(Trouble::Input)?.skip(1);
+    match (words.next(), words.next()) {
+        (None, _) => Ok(USUAL_PRICE),
+        (Some(word), None) => price_in(word.as_str()).ok_or(Trouble::Argument),
+        _ => Err(Trouble::Argument),
     }
 }
 
-fn run(rt: &HostRuntime) -> Result<(), Trouble> {
+fn run(rt: &(impl Env + Alloc + Print)) -> Result<(), Trouble> {
     let price = asked_price(rt)?;
-    match print_table(rt, price) {
-        Ok(()) => Ok(()),
-        Err(error) => Err(Trouble::Output(error)),
-    }
+    print_table(rt, price).map_err(Trouble::Output)
 }
 
+// An `Err` that `main` returns would be printed by `Debug` after `Error: `. Both programs have these lines: a crate for them would be longer.
 fn main(rt: HostRuntime) -> ExitCode {
     match run(&rt) {
         Ok(()) => ExitCode::SUCCESS,

@@ -5,11 +5,8 @@ use order::{Kind, Row, Sale, Side, next_sale};
 /// How many orders the book has.
 pub(crate) const COUNT: usize = 10;
 
-/// An order: its number, kind, side, mark, price in cents, and size.
-type Line = (u32, Kind, Side, bool, u32, u32);
-
-/// The orders of the book, in order of arrival.
-const ORDERS: [Line; COUNT] = [
+/// The orders of the book, in order of arrival: number, kind, side, mark, price in cents, and size.
+const ORDERS: [(u32, Kind, Side, bool, u32, u32); COUNT] = [
     (1, Kind::MarketOnClose, Side::Buy, false, 0, 1_000),
     (2, Kind::MarketOnClose, Side::Sell, true, 0, 300),
     (3, Kind::LimitOnClose, Side::Sell, false, 2002, 500),
@@ -29,28 +26,15 @@ pub(crate) fn last_sale() -> Sale {
 
 /// Places for the book's orders. What they hold has no meaning.
 pub(crate) fn new_places() -> [Row; COUNT] {
-    [unfilled(ORDERS[0]); COUNT]
+    [Row::unfilled(0, Kind::Crowd, Side::Buy, false, 0, 0); COUNT]
 }
 
 /// The book over `places`, with no share filled. There is a place for each order, so none is refused.
+// No `unwrap`: that a place is left would need an invariant of the loop, in a program that proves nothing else.
 pub(crate) fn book_over(places: &mut [Row; COUNT]) -> List<Row> {
     let mut rows = List::new(places);
-    for line in ORDERS {
-        let _ = rows.push(unfilled(line));
+    for (number, kind, side, marked, price, size) in ORDERS {
+        let _ = rows.push(Row::unfilled(number, kind, side, marked, price, size));
     }
     rows
-}
-
-/// The row of a line, with no share filled.
-fn unfilled(line: Line) -> Row {
-    let (number, kind, side, marked, price, size) = line;
-    Row {
-        number,
-        kind,
-        side,
-        marked,
-        price,
-        size,
-        filled: 0,
-    }
 }

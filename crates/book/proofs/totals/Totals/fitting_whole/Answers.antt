@@ -1,20 +1,18 @@
-use Rattle.std.proofs.Common.{ap, arith}
-use Rattle.book.specs.Fill.{fitting}
-use Rattle.book.proofs.Tallying.{fits_here, fits_below}
+use Rattle.std.proofs.Common.{rules, ℕ, ◌<◌, ◌≤◌, ◌-◌, take, sym, arith}
+use Rattle.std.proofs.lemmas.Grind.{common_steps}
+use Rattle.std.proofs.iter.runs.Sources.{ranges, inclusive_listed_back}
+use Rattle.book.specs.Tally.{together}
+use Rattle.book.proofs.Tallying.{filled_is}
 use Rattle.book.proofs.totals.Totals.fitting_whole.Goals as goal
 
-pub loop-count-init : goal.loop-count-init
-loop-count-init c = ((λ es s t e. ap (fitting es s) t.opened), omega arith)
-
-pub loop-count-preserved : goal.loop-count-preserved
-loop-count-preserved c = (
-  fits_below c.loop-count.invariant.0 c.loop-count.invariant.1 c.loop-count-test.true c.sum_of_first.result c.sum_of_first.ensures.value c.if-sum_of_first-volume.false,
-  omega (arith, c.loop-count.invariant.1),
-)
-
-pub returns-then-sum_of_first-volume : goal.returns-then-sum_of_first-volume
-returns-then-sum_of_first-volume c =
-    record {
-      value = fits_here c.loop-count.invariant.0 c.loop-count.invariant.1 c.loop-count-test.true c.sum_of_first.result c.sum_of_first.ensures.value c.if-sum_of_first-volume.true;
-      within = c.loop-count.invariant.1;
-    }
+pub returns-clause-value : goal.returns-clause-value
+returns-clause-value c =
+    let t = c.args.self.now in
+    let fit : together (take c.unwrap_or.result t.tallies) ≤ c.args.volume = search (rules, ranges) in
+    let over : (k : ℕ) → c.unwrap_or.result < k → k ≤ t.classes → c.args.volume < together (take k t.tallies) =
+    λ k above inside.
+    let asked = c.find.ensures.runs in
+    let counts = c.rev.ensures.runs asked.0 asked.0.seen asked.1 in
+    let down = (inclusive_listed_back counts.0 counts.0.seen).4 (cc (counts.1, c.new.ensures.exhausted)) in
+    grind (arith, common_steps, down.0.3 (t.classes - k), counts, c.new.ensures, asked.2) in
+    λ es s totals e. filled_is es s t totals c.unwrap_or.result (search (rules, ranges)) (rw (sym e) fit) (rw (sym e) over)

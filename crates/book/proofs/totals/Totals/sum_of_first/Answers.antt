@@ -1,19 +1,15 @@
-use Rattle.std.proofs.Common.{◌≡◌, sym, ap, ◌∙◌, arith}
-use Rattle.book.specs.Weight.{first}
-use Rattle.book.proofs.Tallying.{first_more, open_tally}
-use Rattle.book.proofs.Whole.{first_zero}
+use Rattle.std.proofs.Common.{◌≡◌, take, rules, ◌∙◌, arith}
+use Rattle.std.proofs.lemmas.Grind.{common_steps}
+use Rattle.std.proofs.lemmas.List.Sums.{sum_by-take-le}
+use Rattle.book.specs.declared.totals.Tally.{Tally}
+use Rattle.book.specs.Tally.{together}
+use Rattle.book.proofs.Tallying.{together_first}
 use Rattle.book.proofs.totals.Totals.sum_of_first.Goals as goal
 
-pub loop-i-init : goal.loop-i-init
-loop-i-init c = ((λ es s t h. sym (first_zero es s)), omega arith)
+pub sum-requires-clause-fits : goal.sum-requires-clause-fits
+sum-requires-clause-fits c = grind (arith, common_steps, sum_by-take-le (λ (tally : Tally). tally.shares) c.args.self.now.tallies c.args.count)
 
-pub loop-i-preserved : goal.loop-i-preserved
-loop-i-preserved c = (
-  (λ es s t h. omega (arith, c.loop-i.invariant.0 es s t (omega arith), open_tally es s c.args.self.now t c.loop-i.i (omega arith), first_more es s c.loop-i.i)),
-  omega (arith, c.loop-i.invariant.1, c.requires.few c.loop-i.i),
-)
-
-pub returns : goal.returns
-returns c =
-    let all : c.loop-i.i ≡ c.args.count = omega arith in
-    record { value = λ es s t h. c.loop-i.invariant.0 es s t (omega arith) ∙ ap (first es s) all }
+pub returns-clause-value : goal.returns-clause-value
+returns-clause-value c =
+    let whole : c.sum.result ≡ together (take c.args.count c.args.self.now.tallies) = search rules in
+    λ es s each inside. whole ∙ together_first es s c.args.self.now each c.args.count inside
