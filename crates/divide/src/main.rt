@@ -4,29 +4,18 @@
 use division::{Fault, divided};
 use std::io::{Read, Write};
 use std::process::ExitCode;
-use std::{env, fmt, io};
+use std::{env, io};
+use thiserror::Error;
 
 /// Why there is no table.
-#[derive(Drop)]
+#[derive(Debug, Drop, Error)]
 enum Trouble {
+    #[error("{0}\nusage: divide AMOUNT CLAIM ..  (or the same words on standard input)")]
     Fault(Fault),
+    #[error("no input: {0}")]
     Input(io::Error),
+    #[error("no output: {0}")]
     Output(io::Error),
-}
-
-impl fmt::Display for Trouble {
-    fn fmt<W: fmt::Write>(&self, f: &mut fmt::Formatter<W>) -> fmt::Result {
-        match self {
-            Trouble::Fault(fault) => {
-                write!(
-                    f,
-                    "{fault}\nusage: divide AMOUNT CLAIM ..  (or the same words on standard input)"
-                )
-            }
-            Trouble::Input(error) => write!(f, "no input: {error}"),
-            Trouble::Output(error) => write!(f, "no output: {error}"),
-        }
-    }
 }
 
 /// The arguments, each with a blank after it, or standard input where there are none.
@@ -43,20 +32,14 @@ fn input(rt: &HostRuntime) -> io::Result<Vec<u8>> {
 }
 
 fn run(rt: &HostRuntime) -> Result<(), Trouble> {
-    let text = match input(rt) {
-        Ok(text) => text,
-        Err(error) => return Err(Trouble::Input(error)),
-    };
-    let table = match divided(rt.alloc(), text.as_slice()) {
-        Ok(table) => table,
-        Err(fault) => return Err(Trouble::Fault(fault)),
-    };
-    match rt.stdout().write_all(table.as_bytes()) {
-        Ok(()) => Ok(()),
-        Err(error) => Err(Trouble::Output(error)),
-    }
+    let text = input(rt).map_err(Trouble::Input)?;
+    let table = divided(rt.alloc(), &text).map_err(Trouble::Fault)?;
+    rt.stdout()
+        .write_all(table.as_bytes())
+        .map_err(Trouble::Output)
 }
 
+// An `Err` that `main` returns would be printed by `Debug` after `Error: `. Both programs have these lines: a crate for them would be longer.
 fn main(rt: HostRuntime) -> ExitCode {
     match run(&rt) {
         Ok(()) => ExitCode::SUCCESS,

@@ -33,10 +33,7 @@ const CASES: [(&str, &str); 11] = [
 ];
 
 fn answer(heap: Global, text: &str) -> Result<String, AllocError> {
-    match divided(heap, text.as_bytes()) {
-        Ok(table) => Ok(table),
-        Err(fault) => format!(in heap; "{fault}"),
-    }
+    divided(heap, text.as_bytes()).or_else(|fault| format!(in heap; "{fault}"))
 }
 
 #[test]

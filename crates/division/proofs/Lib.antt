@@ -1,4 +1,5 @@
 pub mod Words
+pub mod Items
 pub mod Numbers
 pub mod Tasks
 pub mod Lines

@@ -1,71 +1,59 @@
--- What is written, text after text.
-use Rattle.std.proofs.Common.{◌≡◌, ℕ, suc, ◌+◌, ◌-◌, ◌<◌, ◌≤◌, cond, List, [], ◌∷◌, ◌++◌, length, get_or, drop, is_ok, IfOk, Ok, Err, codes, decimal, Result, refl, ap, ◌∙◌, append_assoc, append-nil, arith}
-use Rattle.std.proofs.lemmas.List.{drop_more, drop_all}
+-- What is written, line after line.
+use Rattle.std.proofs.Common.{◌≡◌, ℕ, zero, suc, ◌+◌, ◌-◌, ◌^◌, List, [], ◌∷◌, ◌++◌, length, codes, decimal, refl, ap, ◌⊎◌, append_assoc, append-nil, arith}
+use Rattle.std.specs.List.{repeat}
+use Rattle.std.specs.Fmt.{padded, padded_integral, char_count, take_chars, styled_text, styled_decimal, format_spec}
+use lib.Utf8.{encode}
 use Rattle.sharing.specs.Shares.{total}
 use Rattle.division.specs.Table.{blanks, column, line, rows, heading, table_by}
 
--- the last text of all, where memory suffices
-pub made_whole : {X Y : Type 0} (r : Result X Y) (was text now all : List ℕ) → now ≡ cond (is_ok r) (was ++ text) was → was ++ text ≡ all → IfOk r (λ _. now ≡ all)
-made_whole (Ok x) was text now all wrote e = wrote ∙ e
-made_whole (Err y) was text now all wrote e = tt
+blank_by_blank : (n : ℕ) → repeat n (32 ∷ []) ≡ blanks n
+blank_by_blank zero = refl
+blank_by_blank (suc n) = ap (λ l. 32 ∷ l) (blank_by_blank n)
 
--- one blank more
-pub blank_more : (out now goal : List ℕ) (place : ℕ) → place < 11 → out ++ blanks (11 - place) ≡ goal → now ≡ out ++ blanks 1 → now ++ blanks (11 - (place + 1)) ≡ goal
-blank_more out now goal place h e wrote =
-    let n : 11 - place ≡ suc (11 - (place + 1)) = omega arith in
-    let more : blanks (11 - place) ≡ blanks 1 ++ blanks (11 - (place + 1)) = ap blanks n in
-    let join = append_assoc out (blanks 1) (blanks (11 - (place + 1))) in
-    cc
+-- what `{:>11}` writes of a number
+at_right : (s : _) (n : ℕ) → s ≡ format_spec 32 3 0 11 (2 ^ 64 - 1) → styled_decimal s n ≡ blanks (11 - length (decimal n)) ++ decimal n
+unfolding padded_integral char_count encode
+at_right s n is =
+    let k = 11 - length (decimal n) in
+    let all : k - 0 - 0 ≡ k = omega arith in
+    let none : k - k ≡ 0 = omega arith in
+    rw (is, all, none, blank_by_blank k) (simp append-nil)
 
--- the text after its blanks
-pub column_whole : (was begun out text : List ℕ) (place : ℕ) → 11 ≤ place → begun ≡ was ++ blanks 1 → out ++ blanks (11 - place) ≡ begun ++ blanks (11 - length text) → out ++ text ≡ was ++ column text
-unfolding column
-column_whole was begun out text place h first e =
-    let n : 11 - place ≡ 0 = omega arith in
-    let none : blanks (11 - place) ≡ [] = ap blanks n in
-    let here = append-nil out in
-    let join = append_assoc begun (blanks (11 - length text)) text in
-    let start = append_assoc was (blanks 1) (blanks (11 - length text) ++ text) in
-    cc
+-- the options of a line's four columns
+module _ (a b c d : _) (p : a ≡ format_spec 32 3 0 11 (2 ^ 64 - 1)) (q : b ≡ format_spec 32 3 0 11 (2 ^ 64 - 1)) (r : c ≡ format_spec 32 3 0 11 (2 ^ 64 - 1)) (s : d ≡ format_spec 32 3 0 11 (2 ^ 64 - 1)) where
+  pub heading_is : 32 ∷ (styled_text a [] ++ (32 ∷ (styled_text b (codes "claim") ++ (32 ∷ (styled_text c (codes "arrival") ++ (32 ∷ (styled_text d (codes "turns") ++ codes "\n"))))))) ≡ heading
+  unfolding padded char_count take_chars encode line column
+  heading_is = rw (p, q, r, s) refl
 
--- four columns, and the line feed
-pub line_whole : (was one two three four a b c d : List ℕ) → one ≡ was ++ column a → two ≡ one ++ column b → three ≡ two ++ column c → four ≡ three ++ column d
-    → four ++ codes "\n" ≡ was ++ line a b c d
-unfolding line
-line_whole was one two three four a b c d p q r s = rw (s, r, q, p) (simp append_assoc)
+  pub numbers_are : (n x y z : ℕ) → 32 ∷ (styled_decimal a n ++ (32 ∷ (styled_decimal b x ++ (32 ∷ (styled_decimal c y ++ (32 ∷ (styled_decimal d z ++ codes "\n"))))))) ≡ line (decimal n) (decimal x) (decimal y) (decimal z)
+  unfolding line column
+  numbers_are n x y z = rw (at_right a n p, at_right b x q, at_right c y r, at_right d z s) (simp append_assoc)
 
-rows_here : (n c x y : ℕ) (cs xs ys : List ℕ) → rows n (c ∷ cs) (x ∷ xs) (y ∷ ys) ≡ line (decimal n) (decimal c) (decimal x) (decimal y) ++ rows (n + 1) cs xs ys
+  pub sums_are : (x y z : ℕ) → 32 ∷ (styled_text a (codes "sum") ++ (32 ∷ (styled_decimal b x ++ (32 ∷ (styled_decimal c y ++ (32 ∷ (styled_decimal d z ++ codes "\n"))))))) ≡ line (codes "sum") (decimal x) (decimal y) (decimal z)
+  unfolding padded char_count take_chars encode line column
+  sums_are x y z = rw (p, at_right b x q, at_right c y r, at_right d z s) (simp append_assoc)
+
+-- one row more, where k rows are written
+pub rows_more : (i k more c x y : ℕ) (cs xs ys cs' xs' ys' out text now goal : List ℕ) → cs ≡ c ∷ cs' → xs ≡ x ∷ xs' → ys ≡ y ∷ ys' → i ≡ k → more ≡ k + 1
+    → now ≡ out ++ text → text ≡ line (decimal (i + 1)) (decimal c) (decimal x) (decimal y) → out ++ rows (k + 1) cs xs ys ≡ goal → now ++ rows (more + 1) cs' xs' ys' ≡ goal
 unfolding rows
-rows_here n c x y cs xs ys = refl
+rows_more i k more c x y cs xs ys cs' xs' ys' out text now goal p q r here one wrote is so_far =
+    rw (one, wrote, is, here, append_assoc) (rw (p, q, r) at so_far)
 
-rows_end : (n : ℕ) (xs ys : List ℕ) → rows n [] xs ys ≡ []
+-- no row more, where a list is at its end
+rows_end : (n : ℕ) (cs xs ys : List ℕ) → ((length cs ≡ 0) ⊎ (length xs ≡ 0)) ⊎ (length ys ≡ 0) → rows n cs xs ys ≡ []
 unfolding rows
-rows_end n xs ys = refl
+rows_end n [] xs ys h = refl
+rows_end n (c ∷ cs) [] ys h = refl
+rows_end n (c ∷ cs) (x ∷ xs) [] h = refl
+rows_end n (c ∷ cs) (x ∷ xs) (y ∷ ys) h = absurd (omega arith)
 
-module _ (cs xs ys out goal : List ℕ) (i : ℕ) (so_far : out ++ rows (i + 1) (drop i cs) (drop i xs) (drop i ys) ≡ goal) where
-  -- one row more
-  pub rows_more : (number now : List ℕ) (c x y : ℕ) → i < length cs → length xs ≡ length cs → length ys ≡ length cs
-      → number ≡ decimal (i + 1) → c ≡ get_or cs i 0 → x ≡ get_or xs i 0 → y ≡ get_or ys i 0
-      → now ≡ out ++ line number (decimal c) (decimal x) (decimal y)
-      → now ++ rows (i + 1 + 1) (drop (i + 1) cs) (drop (i + 1) xs) (drop (i + 1) ys) ≡ goal
-  rows_more number now c x y h p q n is_c is_x is_y wrote =
-      let at_c = drop_more cs i 0 h in
-      let at_x = drop_more xs i 0 (omega arith) in
-      let at_y = drop_more ys i 0 (omega arith) in
-      let here = rows_here (i + 1) (get_or cs i 0) (get_or xs i 0) (get_or ys i 0) (drop (i + 1) cs) (drop (i + 1) xs) (drop (i + 1) ys) in
-      let join = append_assoc out (line number (decimal c) (decimal x) (decimal y)) (rows (i + 1 + 1) (drop (i + 1) cs) (drop (i + 1) xs) (drop (i + 1) ys)) in
-      cc
-
-  -- no row more
-  pub rows_whole : length cs ≤ i → out ≡ goal
-  rows_whole h =
-      let none = drop_all i cs h in
-      let end = rows_end (i + 1) (drop i xs) (drop i ys) in
-      let here = append-nil out in
-      cc
-
--- the heading, the rows and the sums
-pub table_whole : (cs xs ys none one two three : List ℕ) (c x y : ℕ) → none ≡ [] → one ≡ none ++ heading → two ≡ one ++ rows 1 cs xs ys
-    → three ≡ two ++ line (codes "sum") (decimal c) (decimal x) (decimal y) → c ≡ total cs → x ≡ total xs → y ≡ total ys
-    → three ≡ table_by cs xs ys
-table_whole cs xs ys none one two three c x y n h r s is_c is_x is_y = rw (s, r, h, n, is_c, is_x, is_y) (append_assoc heading (rows 1 cs xs ys) _)
+-- the sums after the heading and the rows
+pub table_whole : (cs xs ys cs' xs' ys' out text now : List ℕ) (n c x y : ℕ) → ((length cs' ≡ 0) ⊎ (length xs' ≡ 0)) ⊎ (length ys' ≡ 0)
+    → out ++ rows n cs' xs' ys' ≡ heading ++ rows 1 cs xs ys → c ≡ total cs → x ≡ total xs → y ≡ total ys
+    → now ≡ out ++ text → text ≡ line (codes "sum") (decimal c) (decimal x) (decimal y) → now ≡ table_by cs xs ys
+table_whole cs xs ys cs' xs' ys' out text now n c x y ends so_far is_c is_x is_y wrote is =
+    let end = rows_end n cs' xs' ys' ends in
+    let whole = append-nil out in
+    let join = append_assoc heading (rows 1 cs xs ys) text in
+    cc

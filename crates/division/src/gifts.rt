@@ -1,5 +1,5 @@
 // The gifts of a method, and sums.
-ghost use Rattle.std.specs.Prelude.{◌≡◌, length, IfOk, vec_len};
+ghost use Rattle.std.specs.Prelude.{◌≡◌, IfOk};
 ghost use Rattle.sharing.specs.Shares.{total};
 
 use sharing::Sharing;
@@ -12,11 +12,10 @@ pub(crate) fn gifts_by<S: Sharing>(
     amount: u64,
     claims: &[u32],
 ) -> Result<Vec<u32>, AllocError>
-    ensures items { IfOk result (λ v. v.items ≡ S.meaning method.now amount claims.now) }
-    ensures len { IfOk result (λ v. vec_len v ≡ length claims.now) }
+    ensures { IfOk result (λ v. v.items ≡ S.meaning method.now amount claims.now) }
 {
     let mut gifts = vec![in heap; 0; claims.len()]?;
-    method.share(amount, claims, gifts.as_mut_slice()).unwrap();
+    method.share(amount, claims, &mut gifts).unwrap();
     Ok(gifts)
 }
 
@@ -24,9 +23,5 @@ pub(crate) fn gifts_by<S: Sharing>(
 pub(crate) fn sum_of(numbers: &[u32]) -> u128
     ensures { result ≡ total numbers.now }
 {
-    let mut sum: u128 = 0;
-    for number in numbers {
-        sum += u128::from(*number);
-    }
-    sum
+    numbers.iter().map(|n| u128::from(*n)).sum()
 }

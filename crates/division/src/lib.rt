@@ -13,20 +13,21 @@ ghost use Rattle.division.specs.Table.{table_of};
 
 use columns::table_by;
 use gifts::gifts_by;
-use reading::{LARGEST_AMOUNT, claims_in, first_word, number};
+use reading::{LARGEST_AMOUNT, LARGEST_CLAIM, is_blank, number};
 use sharing::{ByArrival, ByTurns};
 use std::alloc::{AllocError, AllocFailed, Global};
+use std::error::Error;
 use std::fmt;
 
 /// An amount, and the claims on it in the order of their arrival.
-#[derive(Drop)]
+#[derive(Debug, Drop)]
 pub struct Task {
     pub amount: u64,
     pub claims: Vec<u32>,
 }
 
 /// Why a text asks no task. A word's place counts from 1.
-#[derive(Clone, Copy)]
+#[derive(Clone, Copy, PartialEq, Eq, Debug)]
 pub enum Fault {
     /// The text has no word.
     NoAmount,
@@ -40,11 +41,12 @@ pub enum Fault {
     Memory,
 }
 
+// By hand: a derived text has no contract.
 impl fmt::Display for Fault {
     ghost output = { λ f. Some (fault_text f) };
 
     fn fmt<W: fmt::Write>(&self, f: &mut fmt::Formatter<W>) -> fmt::Result {
-        match *self {
+        match self {
             Fault::NoAmount => write!(f, "no amount is given"),
             Fault::NoClaim => write!(f, "no claim is given"),
             Fault::NoNumber(place) => write!(f, "word {place} is no number"),
@@ -59,6 +61,9 @@ impl fmt::Display for Fault {
     }
 }
 
+impl Error for Fault {}
+
+// Both conversions are by hand: a clause names the fault, and a derived one has no contract. They are two, as `std` has two errors of memory.
 impl From<AllocError> for Fault {
     ghost from_gives = { λ _ r. r ≡ OfMemory };
 
@@ -80,7 +85,7 @@ pub fn divided(heap: Global, text: &[u8]) -> Result<String, Fault>
     ensures { Answers (answer_of text.now) string_bytes result }
 {
     let task = read_task(heap, text)?;
-    Ok(table(heap, &task)?)
+    table(heap, &task).map_err(Fault::from)
 }
 
 /// Reads a task from the words of a text: the amount, at most 2^64 - 1, and then one claim or more, each at most 2^32 - 1.
@@ -88,12 +93,14 @@ pub fn divided(heap: Global, text: &[u8]) -> Result<String, Fault>
 pub fn read_task(heap: Global, text: &[u8]) -> Result<Task, Fault>
     ensures { Answers (task_of text.now) asked result }
 {
-    let (word, rest) = first_word(text);
-    if word.is_empty() {
-        return Err(Fault::NoAmount);
+    let mut words = text.split(is_blank).filter(|word| !word.is_empty());
+    let first = words.next().ok_or(Fault::NoAmount)?;
+    let amount = number(first, 1, LARGEST_AMOUNT)?;
+    let mut claims = Vec::new(heap);
+    for word in words {
+        let claim = number(word, claims.len() + 2, LARGEST_CLAIM)?;
+        claims.push(claim as u32)?;
     }
-    let amount = number(word, 1, LARGEST_AMOUNT)?;
-    let claims = claims_in(heap, rest)?;
     if claims.is_empty() {
         return Err(Fault::NoClaim);
     }
@@ -104,8 +111,7 @@ pub fn read_task(heap: Global, text: &[u8]) -> Result<Task, Fault>
 pub fn table(heap: Global, task: &Task) -> Result<String, AllocError>
     ensures { IfOk result (λ s. string_bytes s ≡ table_of (asked task.now)) }
 {
-    let claims = task.claims.as_slice();
-    let arrival = gifts_by(heap, &ByArrival, task.amount, claims)?;
-    let turns = gifts_by(heap, &ByTurns, task.amount, claims)?;
-    table_by(heap, claims, arrival.as_slice(), turns.as_slice())
+    let arrival = gifts_by(heap, &ByArrival, task.amount, &task.claims)?;
+    let turns = gifts_by(heap, &ByTurns, task.amount, &task.claims)?;
+    table_by(heap, &task.claims, &arrival, &turns)
 }

@@ -1,13 +1,13 @@
-use Rattle.std.proofs.Common.{arith}
-use Rattle.std.proofs.lemmas.List.{at_drop_more, at_drop_all}
+use Rattle.std.proofs.Common.{◌≡◌, ℕ, ◌+◌, List, [], ◌∷◌, sum, refl, ap, ◌∙◌, rules}
+use Rattle.std.proofs.lemmas.List.Sums.{sum_by-cons}
 use Rattle.sharing.specs.Shares.{total}
 use Rattle.division.proofs.gifts.sum_of.Goals as goal
 
-pub loop-number-preserved : goal.loop-number-preserved
-loop-number-preserved c =
-    let more = at_drop_more total c.args.numbers.now c.loop-number.number-index 0 c.loop-number-test.true in
-    let small = c.type_inv.numbers c.loop-number.number-index in
-    (omega arith, omega arith)
+sum_is_total : (xs : List ℕ) → sum xs ≡ total xs
+sum_is_total [] = refl
+sum_is_total (x ∷ xs) = sum_by-cons (λ n. n) x xs ∙ ap (λ n. x + n) (sum_is_total xs)
 
 pub returns : goal.returns
-returns c = omega (arith, at_drop_all total c.args.numbers.now c.loop-number.number-index c.loop-number-test.false)
+returns c =
+    let added : c.sum.result ≡ sum c.args.numbers.now = search rules in
+    added ∙ sum_is_total c.args.numbers.now

@@ -1,8 +1,7 @@
-use Rattle.std.proofs.Common.{◌≡◌, ◌≤◌, true, drop}
-use Rattle.division.specs.Numbers.{digits, value_after, value}
+use Rattle.std.proofs.Common.{◌≡◌, ◌≤◌, take}
+use Rattle.division.specs.Numbers.{value}
 use Rattle.division.proofs.reading.number.Given as goal
 
+-- the number that the digits read so far write
 abbrev pub invariant-loop-byte : goal.invariant-loop-byte
-invariant-loop-byte l =
-    (value_after l.value (drop l.byte-index l.word) ≡ value l.word)
-    × (digits (drop l.byte-index l.word) ≡ true) × (l.value ≤ l.limit)
+invariant-loop-byte l = record { reads : l.value ≡ value (take l.byte-index l.word); within : l.value ≤ l.limit }
