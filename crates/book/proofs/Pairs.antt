@@ -57,7 +57,7 @@ module _ (p : Entry → Bool) where
   shares_whole (e ∷ es) [] h = absurd h
   shares_whole (e ∷ es) (x ∷ xs) h = grind (arith, shares_whole es xs h.1)
 
-  -- unless Q, nothing
+  -- Q holds, or the shares are 0
   pub shares_none_or : (Q : Type 0) (es : List Entry) (xs : List ℕ) → AllZip (λ e x. p e ≡ true → 0 < x → Q) es xs → (shares p es xs ≡ 0) ⊎ Q
   shares_none_or Q [] xs h = inl refl
   shares_none_or Q (e ∷ es) [] h = inl refl

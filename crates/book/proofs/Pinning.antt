@@ -6,7 +6,7 @@ use Rattle.order.specs.declared.kind.Side.{Side}
 use Rattle.order.specs.declared.kind.Side.TheVariants.{Buy, Sell}
 use Rattle.order.specs.Kinds.{is}
 use Rattle.book.specs.declared.entry.Entry.{Entry}
-use Rattle.book.specs.Weight.{musts, among, first, in_class, open_to}
+use Rattle.book.specs.Weight.{must_execute, among, first, in_class, open_to}
 use Rattle.book.specs.Volume.{traded}
 use Rattle.book.specs.Assignment.{shares, side_shares, class_shares, Assignment, trades, Before, InOrder, CutClass, OneCut}
 use Rattle.book.proofs.Pairs.{each_map, each_and, same_side, shares_within, shares_whole, shares_none, shares_none_or, shares_split}
@@ -50,10 +50,10 @@ module _ (es : List Entry) (xs : List ℕ) (a : Assignment es xs) where
   pub trades_most : trades es xs ≤ traded es
   trades_most = omega (arith, lesser es, side_most Buy, side_most Sell, a.level)
 
-  pub musts_fit : (s : Side) → first es s musts ≤ traded es
-  musts_fit s = omega (arith, early_late s musts, shares_whole (early s musts) es xs (each_map _ _ must es xs a.must_whole), side_trades s, trades_most)
+  pub must_execute_fits : (s : Side) → first es s must_execute ≤ traded es
+  must_execute_fits s = omega (arith, early_late s must_execute, shares_whole (early s must_execute) es xs (each_map _ _ must es xs a.must_whole), side_trades s, trades_most)
     where
-      must : (e : Entry) (x : ℕ) → (among musts e.rank ≡ true → x ≡ e.size) → early s musts e ≡ true → x ≡ e.size
+      must : (e : Entry) (x : ℕ) → (among must_execute e.rank ≡ true → x ≡ e.size) → early s must_execute e ≡ true → x ≡ e.size
       must e x whole is_early = whole (and_parts (is s e.side) _ is_early).1
 
   module _ (ordered : InOrder es xs) (s : Side) (k : ℕ) where

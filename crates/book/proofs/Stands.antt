@@ -11,15 +11,16 @@ use Rattle.order.specs.declared.kind.Side.{Side}
 use Rattle.order.specs.declared.kind.Side.TheVariants.{Buy, Sell}
 use Rattle.order.specs.Kinds.{is}
 use Rattle.book.specs.declared.entry.Entry.{Entry}
-use Rattle.book.specs.Weight.{musts, among, ranked, first, open_to}
+use Rattle.book.specs.Answers.{gifts_of}
+use Rattle.book.specs.Weight.{must_execute, among, ranked, first, open_to}
 use Rattle.book.specs.Volume.{traded, unfillable}
 use Rattle.book.specs.Assignment.{side_shares, Assignment, InOrder}
 use Rattle.book.specs.Fill.{filled_whole, left_over, part_of, claim_in, share_in, asked, claims_of, fills_of}
 use Rattle.book.specs.Theorem.{NoAssignment, Largest, Filled}
 use Rattle.book.proofs.Pairs.{each_map, each_from, each_made, each_gifts, same_side, shares_whole, shares_none, shares_split, shares_gifts, shares_both}
-use Rattle.book.proofs.Whole.{musts_open, one_more, whole_open, whole_most, whole_left, left_open, left_short, one_left}
+use Rattle.book.proofs.Whole.{must_execute_open, one_more, whole_open, whole_most, whole_left, left_open, left_short, one_left}
 use Rattle.book.proofs.Parts.{claim_none, claim_whole, share_is, share_within, share_none, share_whole, share_before}
-use Rattle.book.proofs.Pinning.{trades_most, musts_fit, class_pins, one_cut}
+use Rattle.book.proofs.Pinning.{trades_most, must_execute_fits, class_pins, one_cut}
 
 -- an amount divided among claims: as many gifts as claims, none above its claim, together the lesser of the amount and all claims
 pub record Divided (amount : ℕ) (claims gifts : List ℕ) : Type 0 where
@@ -27,7 +28,7 @@ pub record Divided (amount : ℕ) (claims gifts : List ℕ) : Type 0 where
   pub spent : total gifts ≡ min amount (total claims)
 
 pub none : (es : List Entry) → unfillable es ≡ true → NoAssignment es
-none es short xs a = neither _ _ _ short (musts_fit es xs a Buy) (musts_fit es xs a Sell)
+none es short xs a = neither _ _ _ short (must_execute_fits es xs a Buy) (must_execute_fits es xs a Sell)
   where
     neither : (v b c : ℕ) → (ltb v b || ltb v c) ≡ true → b ≤ v → c ≤ v → ⊥
     neither v b c h f g = grind (arith, nat_tests)
@@ -78,12 +79,12 @@ module _ (es : List Entry) (gs : List ℕ) (divided : Divided (asked es) (claims
       go (inl n) = omega (arith, spent, fills_are Buy, fills_are Sell, gifts_none Buy n, shares_both _ es gs within, whole_left es Buy, whole_left es Sell)
       go (inr n) = omega (arith, spent, fills_are Buy, fills_are Sell, gifts_none Sell n, shares_both _ es gs within, whole_left es Buy, whole_left es Sell)
 
-  fills_assigned : ((s : Side) → first es s musts ≤ traded es) → Assignment es (fills_of es gs)
+  fills_assigned : ((s : Side) → first es s must_execute ≤ traded es) → Assignment es (fills_of es gs)
   fills_assigned fit =
       record {
         within = each_fill _ (λ e g h. share_within (filled_whole es e.side) (left_over es e.side) e.rank e.size g h);
         eligible_only = each_fill _ (λ e g h. share_none (filled_whole es e.side) (left_over es e.side) (open_to es e.side) (whole_open es e.side) (left_open es e.side) e.rank e.size g);
-        must_whole = each_fill _ (λ e g h. share_whole (filled_whole es e.side) (left_over es e.side) musts (whole_most es e.side musts (musts_open es e.side) (fit e.side)) e.rank e.size g);
+        must_whole = each_fill _ (λ e g h. share_whole (filled_whole es e.side) (left_over es e.side) must_execute (whole_most es e.side must_execute (must_execute_open es e.side) (fit e.side)) e.rank e.size g);
         level = fills_trade.0 ∙ sym fills_trade.1;
       }
 
@@ -103,19 +104,17 @@ module _ (es : List Entry) (gs : List ℕ) (divided : Divided (asked es) (claims
         pinned = λ ys b ordered all s k. class_pins es (fills_of es gs) a fills_in_order s k fills_trade.0 ∙ sym (class_pins es ys b ordered s k all);
       }
     where
-      fit : (s : Side) → first es s musts ≤ traded es
+      fit : (s : Side) → first es s must_execute ≤ traded es
       fit Buy = ltb-false _ _ (or_parts _ _ fillable).0
       fit Sell = ltb-false _ _ (or_parts _ _ fillable).1
 
 pub divided_by : (a : ℕ) (cs gs : List ℕ) → length gs ≡ length cs → Within cs gs → total gs ≡ min a (total cs) → Divided a cs gs
 divided_by a cs gs paired within spent = record { within = fits_from cs gs paired within; spent = spent }
 
--- shared by arrival
-pub largest : (es : List Entry) → unfillable es ≡ false → Largest es (traded es)
-largest es fillable = record { reached = (fills_of es gs, (filled.assigned, filled.bought)); most = filled.most }
-  where
-    gs : List ℕ
-    gs = arrival (asked es) (claims_of es)
+-- shared by arrival, the orders are filled with V
+pub by_arrival : (es : List Entry) → unfillable es ≡ false → Filled es (fills_of es (gifts_of arrival es)) (traded es)
+by_arrival es = stands es _ (divided_by (asked es) (claims_of es) _ (arrival_paired _ _) (arrival_within _ _) (arrival_spends _ _))
 
-    filled : Filled es (fills_of es gs) (traded es)
-    filled = stands es gs (divided_by (asked es) (claims_of es) gs (arrival_paired _ _) (arrival_within _ _) (arrival_spends _ _)) fillable
+-- so V is reached, and it is the most
+pub largest : (es : List Entry) → unfillable es ≡ false → Largest es (traded es)
+largest es fillable = let filled = by_arrival es fillable in record { reached = (fills_of es (gifts_of arrival es), (filled.assigned, filled.bought)); most = filled.most }

@@ -6,12 +6,14 @@ use Rattle.order.specs.declared.kind.Side.{Side}
 use Rattle.order.specs.declared.kind.Side.TheVariants.{Buy, Sell}
 use Rattle.order.specs.Kinds.{is}
 use Rattle.book.specs.declared.entry.Entry.{Entry}
-use Rattle.book.specs.Weight.{musts, commons, among, ranked, first, in_class, open_to}
+use Rattle.book.specs.Weight.{must_execute, open_to_both, among, ranked, first, in_class, open_to}
 use Rattle.book.specs.Volume.{traded}
 use Rattle.book.specs.Fill.{fitting, filled_whole, left_over}
 
-pub musts_open : (es : List Entry) (s : Side) → musts ≤ open_to es s
-musts_open es s = grind arith
+-- all that the theorem about fills knows of the two numbers of classes: those that must execute are open to both sides
+pub must_execute_open : (es : List Entry) (s : Side) → must_execute ≤ open_to es s
+unfolding must_execute open_to_both
+must_execute_open es s = grind arith
 
 pub first_zero : (es : List Entry) (s : Side) → first es s 0 ≡ 0
 first_zero [] s = refl
@@ -31,7 +33,7 @@ first_grows es s j (suc k) h = grind (arith, one_more es s k, first_grows es s j
 
 -- V is the lesser of what the sides have in open classes
 pub lesser : (es : List Entry) → traded es ≡ min (first es Buy (open_to es Buy)) (first es Sell (open_to es Sell))
-lesser es = grind (arith, nat_tests, one_more es Buy commons, one_more es Sell commons)
+lesser es = grind (arith, nat_tests, one_more es Buy open_to_both, one_more es Sell open_to_both)
 
 module _ (es : List Entry) (s : Side) where
   pub fits : (n : ℕ) → first es s (fitting es s n) ≤ traded es

@@ -1,5 +1,5 @@
 -- What a fill answers, and what the lists then hold. Assumes nothing.
-use Rattle.std.specs.Prelude.{ℕ, Bool, if◌then◌else◌, not, ◌&&◌, List, ◌++◌, map, length, drop, Ok, Err, Result, nat_le}
+use Rattle.std.specs.Prelude.{◌≡◌, ℕ, Bool, false, if◌then◌else◌, not, ◌&&◌, List, ◌++◌, map, length, drop, Ok, Err, Result, nat_le}
 use Rattle.list.specs.declared.List.{List as Held}
 use Rattle.list.specs.Held.{contents, held, kept, holding}
 use Rattle.order.specs.declared.kind.Row.{Row}
@@ -12,22 +12,22 @@ use Rattle.book.specs.Fill.{asked, claims_of, fills_of, given_rows, given_of}
 use Rattle.book.specs.Theorem.{NoAssignment, Filled}
 use Rattle.book.specs.Volume.{traded, unfillable}
 
--- the question that a refusal answers no: has each order a place in both work lists, does an assignment exist, are claims and gifts
+-- the question that a refusal answers no: has each row a place in both work lists, does an assignment exist, are claims and gifts
 -- equally long?
 abbrev pub question_of : FillFault → ℕ
 question_of NoPlace = 20
 question_of Unfillable = 21
 question_of Unequal = 22
 
--- both work lists have a place for each order
-abbrev pub roomy : Held Row → List ℕ → List ℕ → Bool
-roomy l claims gifts = nat_le (held l) (length claims) && nat_le (held l) (length gifts)
+-- both work lists have a place for each row
+abbrev pub have_room : Held Row → List ℕ → List ℕ → Bool
+have_room l claims gifts = nat_le (held l) (length claims) && nat_le (held l) (length gifts)
 
 -- the gifts of a method of this meaning, which is asked once
 abbrev pub gifts_of : (ℕ → List ℕ → List ℕ) → List Entry → List ℕ
 gifts_of meaning es = meaning (asked es) (claims_of es)
 
--- what a work list then holds: the numbers ns, one an order, and in later places what it held
+-- what a work list then holds: the numbers ns, one for each row, and in later places what it held
 abbrev pub work_after : Held Row → List ℕ → List ℕ → List ℕ
 work_after l ns places = ns ++ drop (held l) places
 
@@ -43,11 +43,11 @@ list_after l fills = rewritten l (given_rows (kept l) fills)
 module _ (l : Held Row) (terms : Terms) (claims gifts : List ℕ) where
   -- the volume, or the first question answered no
   abbrev pub fill_answer : Result ℕ FillFault
-  fill_answer = (if roomy l claims gifts then (if unfillable (orders_at l terms) then Err Unfillable else Ok (traded (orders_at l terms))) else Err NoPlace)
+  fill_answer = (if have_room l claims gifts then (if unfillable (orders_at l terms) then Err Unfillable else Ok (traded (orders_at l terms))) else Err NoPlace)
 
   -- no question is answered no
   abbrev pub fillable : Bool
-  fillable = roomy l claims gifts && not (unfillable (orders_at l terms))
+  fillable = have_room l claims gifts && not (unfillable (orders_at l terms))
 
   -- what the claims, the gifts and the list are then; a refusal leaves each as it was
   abbrev pub claims_after : List ℕ
@@ -59,14 +59,14 @@ module _ (l : Held Row) (terms : Terms) (claims gifts : List ℕ) where
   abbrev pub rows_after : (ℕ → List ℕ → List ℕ) → Held Row
   rows_after meaning = (if fillable then list_after l (fills_of (orders_at l terms) (gifts_of meaning (orders_at l terms))) else l)
 
+  -- an answer upheld, where the orders have been given these shares: a volume comes with fills of the theorem, a price is called unfillable
+  -- on one ground only, that there is no assignment, and where a place is said to be missing, one is. No method is called unequal
+  abbrev pub Upheld : List ℕ → Result ℕ FillFault → Type 0
+  Upheld fills (Ok v) = Filled (orders_at l terms) fills v
+  Upheld fills (Err NoPlace) = have_room l claims gifts ≡ false
+  Upheld fills (Err Unfillable) = NoAssignment (orders_at l terms)
+  Upheld fills (Err Unequal) = ⊥
+
 -- what the rows of a list have been given
 abbrev pub given_in : Held Row → List ℕ
 given_in l = map given_of (kept l)
-
--- an answer upheld: a volume comes with fills of the theorem, and a price is called unfillable on one ground only, that there is no
--- assignment. No method is called unequal
-abbrev pub Upheld : List Entry → List ℕ → Result ℕ FillFault → Type 0
-Upheld es fills (Ok v) = Filled es fills v
-Upheld es fills (Err NoPlace) = Unit {0}
-Upheld es fills (Err Unfillable) = NoAssignment es
-Upheld es fills (Err Unequal) = ⊥

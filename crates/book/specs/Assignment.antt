@@ -5,7 +5,7 @@ use Rattle.order.specs.declared.kind.Side.{Side}
 use Rattle.order.specs.declared.kind.Side.TheVariants.{Buy, Sell}
 use Rattle.order.specs.Kinds.{is}
 use Rattle.book.specs.declared.entry.Entry.{Entry}
-use Rattle.book.specs.Weight.{musts, among, ranked, in_class, eligible}
+use Rattle.book.specs.Weight.{must_execute, among, ranked, in_class, eligible}
 
 -- the shares of the entries that pass a test, added up
 abbrev pub shares : (Entry → Bool) → List Entry → List ℕ → ℕ
@@ -28,7 +28,7 @@ pub record Assignment (es : List Entry) (xs : List ℕ) : Type 0 where
   -- none to an order that is not eligible
   pub eligible_only : AllZip (λ e x. eligible es e ≡ false → x ≡ 0) es xs
   -- whoever must execute gets its whole size
-  pub must_whole : AllZip (λ e x. among musts e.rank ≡ true → x ≡ e.size) es xs
+  pub must_whole : AllZip (λ e x. among must_execute e.rank ≡ true → x ≡ e.size) es xs
   -- buys and sells add up alike
   pub level : side_shares Buy es xs ≡ side_shares Sell es xs
 

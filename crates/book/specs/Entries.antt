@@ -1,4 +1,4 @@
--- The rows of a list as the close sees them at a price. Assumes nothing.
+-- The rows of a list as orders at a price. Assumes nothing.
 use Rattle.std.specs.Prelude.{if◌then◌else◌, List, map, None}
 use Rattle.std.specs.Option.{option_map}
 use Rattle.list.specs.declared.List.{List as Held}
@@ -13,6 +13,7 @@ use Rattle.book.specs.declared.entry.Entry.{Entry}
 abbrev pub entered : Terms → Row → Entry
 entered terms r = record { side = r.side; rank = (if sound r then option_map rank_of (class_of r terms) else None); size = r.size }
 
+-- the rows of a list on these terms
 abbrev pub entries : Terms → List Row → List Entry
 entries terms rows = map (entered terms) rows
 

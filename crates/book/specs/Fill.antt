@@ -28,6 +28,7 @@ abbrev pub part : ℕ → ℕ → Option ℕ → Part
 part m l None = Nothing
 part m l (Some rank) = (if nat_lt rank m then Whole else (if rank == m && nat_lt 0 l then Shared else Nothing))
 
+-- the same of an order of a list
 abbrev pub part_of : List Entry → Entry → Part
 part_of es e = part (filled_whole es e.side) (left_over es e.side) e.rank
 
@@ -43,10 +44,11 @@ share_in Whole n g = n
 share_in Shared n g = g
 share_in Nothing n g = 0
 
--- what the method is asked to divide: what is left for the cut class, of which at most one of the sides has one
+-- what the method is asked to divide: what is left for the cut class. At most one side has something left
 abbrev pub asked : List Entry → ℕ
 asked es = max (left_over es Buy) (left_over es Sell)
 
+-- the claims of all orders
 abbrev pub claims_of : List Entry → List ℕ
 claims_of es = map (λ e. claim_in (part_of es e) e.size) es
 
@@ -62,6 +64,7 @@ fills_of es gifts = beside (λ e g. share_in (part_of es e) e.size g) es gifts
 abbrev pub given_row : Row → ℕ → Row
 given_row r n = (if sound r then refilled r n else r)
 
+-- the rows of a list with what they get
 abbrev pub given_rows : List Row → List ℕ → List Row
 given_rows rows fills = beside given_row rows fills
 

@@ -23,7 +23,7 @@ is_better Better = true
 is_better At = false
 is_better Out = false
 
--- what an unmarked order of a kind is in: the aggregate takes market on close, and limit on close better than the reference price
+-- whether the aggregate takes unmarked orders of a kind: market on close, and limit on close better than the reference price
 abbrev pub aggregates : Kind → Standing → Bool
 aggregates MarketOnClose st = true
 aggregates Crowd st = false
@@ -46,9 +46,11 @@ in_offset terms r = sound r && on_close r.kind && is_some (class_of r terms) && 
 abbrev pub hundreds : (Row → Bool) → Side → List Row → ℕ
 hundreds test s rows = sum_by (λ r. (if is s r.side && test r then in_hundreds r.size else 0)) rows
 
+-- the aggregate of a side
 abbrev pub aggregate_of : List Row → Terms → Side → ℕ
 aggregate_of rows terms s = hundreds (in_aggregate terms) s rows
 
+-- what a side has to offset the other's aggregate
 abbrev pub offset_of : List Row → Terms → Side → ℕ
 offset_of rows terms s = hundreds (in_offset terms) s rows
 

@@ -18,6 +18,7 @@ use Rattle.book.specs.Volume.{traded, unfillable}
 abbrev pub cut_of : List Entry → Side → Cut
 cut_of es s = record { whole = filled_whole es s; left = left_over es s }
 
+-- what trades, and how far each side is filled
 abbrev pub planned : List Entry → Plan
 planned es = record { volume = traded es; buy = cut_of es Buy; sell = cut_of es Sell }
 

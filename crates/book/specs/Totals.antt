@@ -11,7 +11,7 @@ use Rattle.book.specs.declared.sides.Unfillable.{Unfillable}
 use Rattle.book.specs.Fill.{filled_whole}
 use Rattle.book.specs.Plans.{cut_of, Planned}
 use Rattle.book.specs.Volume.{traded}
-use Rattle.book.specs.Weight.{musts, commons, ranked, first, in_class, weight, lighter, open_to}
+use Rattle.book.specs.Weight.{must_execute, open_to_both, ranked, first, in_class, weight, lighter, open_to}
 
 -- the tally of the class k; there is none above 6
 abbrev pub tallied : Totals → ℕ → ℕ
@@ -40,11 +40,11 @@ Weighs t v = (es : List Entry) (s : Side) → TotalsOf es s t → v ≡ weight e
 
 -- v is what must execute
 abbrev pub MustExecute : Totals → ℕ → Type 0
-MustExecute t v = (es : List Entry) (s : Side) → TotalsOf es s t → v ≡ first es s musts
+MustExecute t v = (es : List Entry) (s : Side) → TotalsOf es s t → v ≡ first es s must_execute
 
 -- v is the last class, if the side is the lighter one
 abbrev pub Offsets : Totals → ℕ → Type 0
-Offsets t v = (es : List Entry) (s : Side) → TotalsOf es s t → lighter es s ≡ true → v ≡ in_class es s commons
+Offsets t v = (es : List Entry) (s : Side) → TotalsOf es s t → lighter es s ≡ true → v ≡ in_class es s open_to_both
 
 -- n classes are filled whole by the volume v
 abbrev pub FillsWhole : Totals → ℕ → ℕ → Type 0

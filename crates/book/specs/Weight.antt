@@ -2,16 +2,19 @@
 use Rattle.std.specs.Prelude.{◌≡◌, ℕ, suc, ◌+◌, Bool, false, if◌then◌else◌, ◌&&◌, List, [], ◌∷◌, Some, None, Option, ◌==◌, nat_lt}
 use Rattle.order.specs.declared.kind.Side.{Side}
 use Rattle.order.specs.declared.kind.Side.TheVariants.{Buy, Sell}
+use Rattle.order.specs.declared.class.Class.TheVariants.{BookAt, OffsetIn}
+use Rattle.order.specs.Classes.{rank_of}
 use Rattle.order.specs.Kinds.{is, facing}
 use Rattle.book.specs.declared.entry.Entry.{Entry}
 
--- how many classes come first and must execute whole: class 0
-abbrev pub musts : ℕ
-musts = 1
+-- how many classes come first and must execute whole: class 0, before the orders on the book at the price
+unfoldable pub must_execute : ℕ
+must_execute = rank_of BookAt
 
--- how many classes are open to both sides, those that must execute among them: 0 to 5. The class after them is open to the lighter side only
-abbrev pub commons : ℕ
-commons = 6
+-- how many classes are open to both sides, those that must execute among them: 0 to 5. The next, of closing offset orders, is open to the
+-- lighter side only
+unfoldable pub open_to_both : ℕ
+open_to_both = rank_of OffsetIn
 
 -- in one of the first k classes
 abbrev pub among : ℕ → Option ℕ → Bool
@@ -38,7 +41,7 @@ in_class es s k = sizes (λ e. is s e.side && ranked k e.rank) es
 
 -- W of a side: its sizes in the classes 0 to 5
 abbrev pub weight : List Entry → Side → ℕ
-weight es s = first es s commons
+weight es s = first es s open_to_both
 
 -- the lighter side has the smaller W; equal sides have no lighter one
 abbrev pub lighter : List Entry → Side → Bool
@@ -46,7 +49,7 @@ lighter es s = nat_lt (weight es s) (weight es (facing s))
 
 -- how many classes are open to a side: 0 to 5, and 6 too on the lighter side
 abbrev pub open_to : List Entry → Side → ℕ
-open_to es s = (if lighter es s then suc commons else commons)
+open_to es s = (if lighter es s then suc open_to_both else open_to_both)
 
 -- eligible: in a class that is open to its side
 abbrev pub eligible : List Entry → Entry → Bool

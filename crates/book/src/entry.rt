@@ -1,7 +1,7 @@
-// What the close sees of a row on the terms of a price.
+// A row as an order at a price.
 ghost use Rattle.std.specs.Prelude.{◌≡◌, suc, ◌≤◌, if◌then◌else◌, nat_lt};
 ghost use Rattle.book.specs.Entries.{entered};
-ghost use Rattle.book.specs.Weight.{commons, EligibleBy};
+ghost use Rattle.book.specs.Weight.{open_to_both, EligibleBy};
 
 use order::{Class, Order, Row, Side, Terms};
 
@@ -11,8 +11,7 @@ pub(crate) const OPEN_TO_BOTH: usize = Class::OffsetIn as usize;
 /// How many classes there are.
 pub(crate) const CLASSES: usize = OPEN_TO_BOTH + 1;
 
-/// An order as the close sees it on some terms: its side, the rank of its class there, and its size. Without a rank it is eligible for
-/// nothing.
+/// An order at a price: its side, the rank of its class there, and its size. Without a rank it is eligible for nothing.
 #[derive(Clone, Copy, PartialEq, Eq, Debug)]
 pub struct Entry {
     pub side: Side,
@@ -22,7 +21,7 @@ pub struct Entry {
 }
 
 impl Entry {
-    /// What the close sees of `row` on these terms. A row that fails its check has no rank.
+    /// The order in `row` on these terms. A row that fails its check has no rank.
     pub fn at(row: Row, terms: Terms) -> Entry
         ensures value { result ≡ entered terms row }
     {
@@ -47,10 +46,11 @@ impl Entry {
     }
 }
 
-/// How many classes are open to a side of the one weight that faces the other.
-// That there are at most seven is asked of each number of classes. A type for such numbers would be no plainer: two functions ask it.
+/// How many classes are open to a side whose W is `own`, where the other side's is `facing`.
+// `within` is there since totals are asked for at most seven classes. A type for such numbers would be no plainer: two functions ask it.
+#[tactic(auto, unfolding(crate::specs::Weight::open_to_both))]
 pub(crate) fn open_to(own: u64, facing: u64) -> usize
-    ensures value { result ≡ (if nat_lt own facing then suc commons else commons) }
+    ensures value { result ≡ (if nat_lt own facing then suc open_to_both else open_to_both) }
     ensures within { result ≤ 7 }
 {
     if own < facing { CLASSES } else { OPEN_TO_BOTH }

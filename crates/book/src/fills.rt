@@ -22,7 +22,7 @@ use std::fmt;
 /// Why a list is not filled, in the order of the questions.
 #[derive(Clone, Copy, PartialEq, Eq, Debug)]
 pub enum FillFault {
-    /// A work list has no place for each order.
+    /// A work list has fewer places than the list has rows.
     NoPlace = 20,
     /// No division of the shares fills every order that must execute.
     Unfillable = 21,
@@ -75,11 +75,11 @@ impl From<Unequal> for FillFault {
 }
 
 /// Fills the orders on these terms, each side class by class, and answers the volume. The method is asked once, for the
-/// class that gets some but not all. `claims` and `gifts` then hold one entry an order, and each order its filled shares; rows that fail
-/// their check stay as they are.
+/// class that gets some but not all. `claims` and `gifts` then hold one entry for each row, and each order its filled shares; rows that
+/// fail their check have claim 0 and stay as they are.
 ///
-/// Refuses, and changes nothing, when a work list has no place for each order (20), or when no division of the shares fills every order
-/// that must execute (21).
+/// Refuses, and changes nothing, when a work list has fewer places than the list has rows (20), or when no division of the shares fills
+/// every order that must execute (21). The method never refuses (22).
 // Claims and gifts are two slices of the caller's, since no call allocates (docs/DECISIONS.md, "Forms that are fixed").
 pub fn fill<S: Sharing>(
     rows: &mut List<Row>,
@@ -92,7 +92,7 @@ pub fn fill<S: Sharing>(
     ensures claims { claims.new ≡ claims_after rows.old terms claims.old gifts.old }
     ensures gifts { gifts.new ≡ gifts_after rows.old terms claims.old gifts.old (S.meaning method.now) }
     ensures after { rows.new ≡ rows_after rows.old terms claims.old gifts.old (S.meaning method.now) }
-    ensures upheld { Upheld (orders_at rows.old terms) (given_in rows.new) result }
+    ensures upheld { Upheld rows.old terms claims.old gifts.old (given_in rows.new) result }
 {
     let count = rows.len();
     if claims.len() < count || gifts.len() < count {
@@ -162,7 +162,7 @@ impl Filling {
         claims: &mut [u32],
         gifts: &mut [u32],
     ) -> Result<(), Unequal>
-        requires roomy { (length claims.old ≡ held rows.old) × (length gifts.old ≡ held rows.old) }
+        requires room { (length claims.old ≡ held rows.old) × (length gifts.old ≡ held rows.old) }
         requires planned { self.now.plan ≡ planned (orders_at rows.old self.now.terms) }
         requires fillable { unfillable (orders_at rows.old self.now.terms) ≡ false }
         ensures value { result ≡ Ok tt }

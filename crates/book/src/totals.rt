@@ -8,7 +8,7 @@ use crate::sides::Cut;
 use list::List;
 use order::{Class, Row, Side, Terms};
 
-/// How many classes come first and must execute whole: those before the second.
+/// How many classes come first and must execute whole: class 0.
 const MUST_EXECUTE: usize = Class::BookAt as usize;
 
 /// The shares of one class.
@@ -82,6 +82,7 @@ impl Totals {
     }
 
     /// W of the side.
+    #[tactic(auto, unfolding(crate::specs::Weight::open_to_both))]
     pub(crate) fn weight(&self) -> u64
         ensures value { Weighs self.now result }
     {
@@ -89,6 +90,7 @@ impl Totals {
     }
 
     /// What must execute on the side.
+    #[tactic(auto, unfolding(crate::specs::Weight::must_execute, crate::specs::Weight::open_to_both))]
     pub(crate) fn must_execute(&self) -> u64
         ensures value { MustExecute self.now result }
     {
@@ -96,6 +98,7 @@ impl Totals {
     }
 
     /// The closing offset orders of the side, if it is the lighter one.
+    #[tactic(auto, unfolding(crate::specs::Weight::open_to_both))]
     pub(crate) fn offsets(&self) -> u64
         ensures value { Offsets self.now result }
     {

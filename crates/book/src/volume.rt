@@ -34,6 +34,7 @@ pub fn plan(rows: &List<Row>, terms: Terms) -> Result<Plan, Unfillable>
     plan_by(&buys, &sells)
 }
 
+#[tactic(auto, unfolding(crate::specs::Weight::open_to_both))]
 fn weight_of(rows: &List<Row>, side: Side, terms: Terms) -> u64
     ensures value { result ≡ weight (orders_at rows.now terms) side }
 {

@@ -26,7 +26,7 @@ placed Better better at = Some better
 placed At better at = Some at
 placed Out better at = None
 
--- by kind and mark, of how the order stands to the price and, for a stop, whether it is elected
+-- the class of an order by its kind and mark, how it stands to the price and, for a stop, whether it is elected
 abbrev pub class_by : Kind → Bool → Standing → Bool → Option Class
 class_by MarketOnClose false st el = Some MustExecute
 class_by MarketOnClose true st el = placed st MustExecute MarkedMarketAt

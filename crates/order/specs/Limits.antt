@@ -39,6 +39,7 @@ limit_by ClosingOffset marked side entered b = Some entered
 limit_by Yielding marked side entered b = (if entered == 0 then None else Some entered)
 limit_by Stop marked side entered b = None
 
+-- the effective limit of the order in a row after the last sale
 abbrev pub effective : Row → Sale → Option ℕ
 effective r last = limit_by r.kind r.marked r.side r.price (bound r.side last.tick last.price)
 
@@ -52,6 +53,7 @@ abbrev pub standing_by : Side → Option ℕ → ℕ → Standing
 standing_by side None p = Better
 standing_by side (Some limit) p = stands side limit p
 
+-- how the order in a row stands on these terms
 abbrev pub standing_of : Row → Terms → Standing
 standing_of r terms = standing_by r.side (effective r terms.sale) terms.price
 

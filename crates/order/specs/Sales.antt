@@ -15,6 +15,6 @@ abbrev pub sale_after : Option Sale → ℕ → Sale
 sale_after before p = record { price = p; tick = tick_after before p }
 
 -- the reference price: the last sale, but the bid if the last sale is below it, and the offer if the last sale is above it; a bid or an
--- offer of 0 is absent
+-- offer of 0 is absent. Where a bid is above the last sale and an offer below it, the bid counts
 abbrev pub reference : ℕ → Quote → ℕ
 reference last q = (if nat_lt last q.bid then q.bid else (if not (q.offer == 0) && nat_lt q.offer last then q.offer else last))

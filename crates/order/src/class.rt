@@ -8,7 +8,7 @@ use crate::limit::Standing;
 /// A class of orders at a price, in the order in which classes are filled.
 #[derive(Clone, Copy, PartialEq, Eq, Debug)]
 pub enum Class {
-    /// 0, must execute: unmarked M, elected S, C; marked M, L and B when better.
+    /// 0, must execute: unmarked M, elected S, C; when better, marked M, L (marked or not) and B.
     MustExecute = 0,
     /// 1: B at; D better or at.
     BookAt = 1,

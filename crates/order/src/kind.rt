@@ -1,4 +1,4 @@
-// The kinds and sides of orders, the limits of their numbers, and a plain row.
+// The kinds and sides of orders, the limits of prices and sizes, and a plain row.
 ghost use Rattle.std.specs.Prelude.{◌≡◌, [], ◌∷◌, Some};
 ghost use Rattle.order.specs.Kinds.{kind_letter, side_letter, priced, on_close, marks};
 ghost use Rattle.order.specs.Entered.{unfilled_row};

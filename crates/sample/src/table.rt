@@ -44,7 +44,7 @@ fn print_heading(rt: &impl Print, terms: Terms) -> io::Result<()> {
     )
 }
 
-/// Prints a line an order.
+/// Prints a line for each order.
 fn print_orders(rt: &impl Print, rows: &List<Row>, terms: Terms) -> io::Result<()> {
     let weights = weights(rows, terms);
     let arrival = fills_by(terms, &ByArrival);

@@ -1,8 +1,10 @@
 use Rattle.std.proofs.Common.{refl}
+use Rattle.book.specs.Weight.{must_execute, open_to_both}
 use Rattle.examples.specs.Table.{table}
 use Rattle.examples.proofs.Passing.{all_hold}
 use Rattle.examples.proofs.worked.Goals as goal
 
 -- one comparison over the whole table
 pub returns : goal.returns
+unfolding must_execute open_to_both
 returns c = record { value = refl; hold = all_hold table refl }
