@@ -1,46 +1,60 @@
 -- Worked examples of the rule, and what it is for one to hold. Assumes nothing.
-use Rattle.std.specs.Prelude.{◌≡◌, ℕ, ◌≤◌, List, [], ◌∷◌, ℤ}
+use Rattle.std.specs.Prelude.{◌≡◌, ℕ, ◌≤◌, List, [], ◌∷◌, ℤ, Option}
+use Rattle.order.specs.declared.class.Class.{Class}
 use Rattle.order.specs.declared.kind.Row.{Row}
+use Rattle.order.specs.declared.limit.Standing.{Standing}
 use Rattle.order.specs.declared.limit.Standing.TheVariants.{Out}
 use Rattle.order.specs.declared.sale.Sale.{Sale}
 use Rattle.order.specs.declared.sale.Quote.{Quote}
 use Rattle.order.specs.declared.terms.Terms.{Terms}
+use Rattle.order.specs.Classes.{class_of}
 use Rattle.order.specs.Limits.{standing_of}
 use Rattle.order.specs.Sales.{reference}
 use Rattle.sharing.specs.Arrival.{arrival}
 use Rattle.sharing.specs.Turns.{turns}
+use Rattle.book.specs.declared.entry.Entry.{Entry}
 use Rattle.book.specs.Answers.{gifts_of}
 use Rattle.book.specs.Entries.{entries}
 use Rattle.book.specs.Fill.{fills_of}
 use Rattle.book.specs.Imbalance.{amount_of}
-use Rattle.book.specs.Theorem.{NoAssignment, Largest}
+use Rattle.book.specs.Theorem.{NoAssignment, Largest, Filled}
 
+-- a worked example: one sentence of the rule, with numbers
 pub data Example : Type 0 where
   -- a last sale and a quote have a reference price
   has_reference : ℕ → Quote → ℕ → Example
-  -- a row is out on these terms
-  is_out : Row → Terms → Example
+  -- a row stands so on these terms
+  has_standing : Row → Terms → Standing → Example
   -- it is out at every price after the last sale
   is_always_out : Row → Sale → Example
+  -- it has a class on these terms, or none
+  has_class : Row → Terms → Option Class → Example
   -- rows trade a volume on these terms
   trade : List Row → Terms → ℕ → Example
   -- they are unfillable
   are_unfillable : List Row → Terms → Example
-  -- shared by arrival, each of them is filled so far
-  are_filled : List Row → Terms → List ℕ → Example
+  -- shared by arrival, each of them gets so many shares, and together they trade a volume
+  are_filled : List Row → Terms → List ℕ → ℕ → Example
   -- they have an imbalance on terms whose price is the reference price
   have_imbalance : List Row → Terms → ℤ → Example
-  -- an amount shared among claims by arrival, and by turns
+  -- an amount is shared so among claims by arrival
   shared_by_arrival : ℕ → List ℕ → List ℕ → Example
+  -- it is shared so among them by turns
   shared_by_turns : ℕ → List ℕ → List ℕ → Example
 
+-- what each order gets, shared by arrival
+abbrev pub fills_by_arrival : List Entry → List ℕ
+fills_by_arrival es = fills_of es (gifts_of arrival es)
+
+-- an example holds: what it says is so by the definitions of the rule
 abbrev pub Holds : Example → Type 0
 Holds (has_reference last quote p) = reference last quote ≡ p
-Holds (is_out row terms) = standing_of row terms ≡ Out
+Holds (has_standing row terms standing) = standing_of row terms ≡ standing
 Holds (is_always_out row last) = (p : ℕ) → 1 ≤ p → standing_of row (record { price = p; sale = last }) ≡ Out
+Holds (has_class row terms class) = class_of row terms ≡ class
 Holds (trade rows terms v) = Largest (entries terms rows) v
 Holds (are_unfillable rows terms) = NoAssignment (entries terms rows)
-Holds (are_filled rows terms fills) = fills_of (entries terms rows) (gifts_of arrival (entries terms rows)) ≡ fills
+Holds (are_filled rows terms fills v) = (fills_by_arrival (entries terms rows) ≡ fills) × Filled (entries terms rows) fills v
 Holds (have_imbalance rows terms n) = amount_of rows terms ≡ n
 Holds (shared_by_arrival amount claims gifts) = arrival amount claims ≡ gifts
 Holds (shared_by_turns amount claims gifts) = turns amount claims ≡ gifts

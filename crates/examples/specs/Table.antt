@@ -1,53 +1,119 @@
 -- The table of worked examples. Assumes nothing.
-use Rattle.std.specs.Prelude.{ℕ, true, false, List, [], ◌∷◌, pos}
+use Rattle.std.specs.Prelude.{ℕ, true, false, List, [], ◌∷◌, pos, neg_ℤ, Some, None}
+use Rattle.order.specs.declared.class.Class.TheVariants.{MustExecute, BookAt, LimitAt, MarkedMarketAt, MarkedLimitAt, YieldingIn, OffsetIn}
 use Rattle.order.specs.declared.kind.Kind.{Kind}
-use Rattle.order.specs.declared.kind.Kind.TheVariants.{MarketOnClose, Crowd, LimitOnClose, Book, ClosingOffset}
+use Rattle.order.specs.declared.kind.Kind.TheVariants.{MarketOnClose, Crowd, LimitOnClose, Book, MarketMaker, ClosingOffset, Yielding, Stop}
 use Rattle.order.specs.declared.kind.Row.{Row}
 use Rattle.order.specs.declared.kind.Side.{Side}
 use Rattle.order.specs.declared.kind.Side.TheVariants.{Buy, Sell}
-use Rattle.order.specs.declared.sale.Tick.TheVariants.{Plus}
+use Rattle.order.specs.declared.limit.Standing.TheVariants.{At, Out}
+use Rattle.order.specs.declared.sale.Tick.TheVariants.{Plus, Minus}
 use Rattle.order.specs.declared.sale.Sale.{Sale}
 use Rattle.order.specs.declared.sale.Quote.{Quote}
 use Rattle.order.specs.declared.terms.Terms.{Terms}
 use Rattle.order.specs.Entered.{unfilled_row}
-use Rattle.examples.specs.Examples.{Example, has_reference, is_out, is_always_out, trade, are_unfillable, are_filled, have_imbalance, shared_by_arrival, shared_by_turns}
+use Rattle.order.specs.Kinds.{facing}
+use Rattle.examples.specs.Examples.{Example, has_reference, has_standing, is_always_out, has_class, trade, are_unfillable, are_filled, have_imbalance, shared_by_arrival, shared_by_turns}
 
--- an order of a kind, side, price and size, and a marked one
+-- the row of an order of a kind, side, price and size, without a mark
 abbrev unmarked : Kind → Side → ℕ → ℕ → Row
 unmarked kind side p n = unfilled_row 1 kind side false p n
 
+-- the same with a mark: Sell Plus on a sell, Buy Minus on a buy
 abbrev marked : Kind → Side → ℕ → ℕ → Row
 marked kind side p n = unfilled_row 1 kind side true p n
 
+-- a last sale at a price, on a plus tick
 abbrev plus_at : ℕ → Sale
 plus_at p = record { price = p; tick = Plus }
 
--- a price, after a last sale on a plus tick
-abbrev at_after : ℕ → ℕ → Terms
-at_after p last = record { price = p; sale = plus_at last }
+-- a last sale at a price, on a minus tick
+abbrev minus_at : ℕ → Sale
+minus_at p = record { price = p; tick = Minus }
 
+-- a price after a last sale
+abbrev at_after : ℕ → Sale → Terms
+at_after p last = record { price = p; sale = last }
+
+-- the price 1500 after a last sale at 1500, on a plus tick
+abbrev at_1500 : Terms
+at_1500 = at_after 1500 (plus_at 1500)
+
+-- a quote with a bid and an offer
 abbrev quote : ℕ → ℕ → Quote
 quote bid offer = record { bid = bid; offer = offer }
 
--- against a marked sell that is better at 2002 and at 2001, a limit and a closing offset order that are at 2002 only
+-- after a sale at 2000 on a plus tick, a market on close to buy faces three sells: a marked market on close that is better both at 2001 and at 2002, and a
+-- limit on close and a closing offset order that are out at 2001 and, at 2002, at the price
 abbrev offset_book : List Row
 offset_book = unmarked MarketOnClose Buy 0 1000 ∷ marked MarketOnClose Sell 0 300 ∷ unmarked LimitOnClose Sell 2002 500 ∷ unmarked ClosingOffset Sell 2002 400 ∷ []
 
+-- a market on close of one side faces two marked orders, a market on close and a limit on close with this limit
+abbrev against_marked : Side → ℕ → List Row
+against_marked side limit = unmarked MarketOnClose side 0 60000 ∷ marked MarketOnClose (facing side) 0 5000 ∷ marked LimitOnClose (facing side) limit 5000 ∷ []
+
+-- the worked examples
 abbrev pub table : List Example
 table =
+    -- reference prices
     has_reference 1500 (quote 1502 1520) 1502
     ∷ has_reference 1500 (quote 1491 1499) 1499
     ∷ has_reference 1500 (quote 1498 1502) 1500
-    ∷ is_out (marked LimitOnClose Sell 1009 100) (at_after 1010 1011)
+    -- marked orders, held to the tick bound
+    ∷ has_standing (marked LimitOnClose Sell 1009 100) (at_after 1010 (plus_at 1011)) Out
+    ∷ has_standing (marked LimitOnClose Buy 1011 100) (at_after 1010 (minus_at 1009)) Out
     ∷ is_always_out (marked MarketOnClose Buy 0 100) (plus_at 1)
-    ∷ trade (unmarked MarketOnClose Buy 0 6000000 ∷ unmarked MarketOnClose Sell 0 5000000 ∷ unmarked Book Sell 3025 700000 ∷ unmarked Crowd Sell 0 300000 ∷ []) (at_after 3025 3025) 6000000
-    ∷ have_imbalance (unmarked MarketOnClose Buy 0 60099 ∷ unmarked MarketOnClose Sell 0 5000 ∷ unmarked LimitOnClose Sell 1500 4950 ∷ []) (at_after 1500 1500) (pos 50100)
-    ∷ have_imbalance (unmarked MarketOnClose Buy 0 60099 ∷ unmarked MarketOnClose Sell 0 5000 ∷ unmarked LimitOnClose Sell 1500 5100 ∷ []) (at_after 1500 1500) (pos 49900)
+    ∷ has_standing (marked MarketOnClose Sell 0 100) (at_after 4601 (minus_at 4600)) At
+    ∷ has_class (marked MarketOnClose Sell 0 100) (at_after 4601 (minus_at 4600)) (Some MarkedMarketAt)
+    ∷ has_class (marked MarketOnClose Sell 0 100) (at_after 1501 (plus_at 1500)) (Some MustExecute)
+    ∷ has_class (marked LimitOnClose Sell 1500 100) (at_after 1501 (plus_at 1500)) (Some MustExecute)
+    ∷ has_class (marked LimitOnClose Sell 1500 100) at_1500 (Some MarkedLimitAt)
+    -- classes of unmarked buys, by kind; that of a closing offset order is open to the lighter side only
+    ∷ has_class (unmarked MarketOnClose Buy 0 100) at_1500 (Some MustExecute)
+    ∷ has_class (unmarked Crowd Buy 0 100) at_1500 (Some MustExecute)
+    ∷ has_class (unmarked LimitOnClose Buy 1501 100) at_1500 (Some MustExecute)
+    ∷ has_class (unmarked LimitOnClose Buy 1500 100) at_1500 (Some LimitAt)
+    ∷ has_class (unmarked LimitOnClose Buy 1499 100) at_1500 None
+    ∷ has_class (unmarked Book Buy 1501 100) at_1500 (Some MustExecute)
+    ∷ has_class (unmarked Book Buy 1500 100) at_1500 (Some BookAt)
+    ∷ has_class (unmarked Book Buy 1499 100) at_1500 None
+    ∷ has_class (unmarked MarketMaker Buy 1501 100) at_1500 (Some BookAt)
+    ∷ has_class (unmarked MarketMaker Buy 1500 100) at_1500 (Some BookAt)
+    ∷ has_class (unmarked MarketMaker Buy 1499 100) at_1500 None
+    ∷ has_class (unmarked Yielding Buy 0 100) at_1500 (Some YieldingIn)
+    ∷ has_class (unmarked Yielding Buy 1501 100) at_1500 (Some YieldingIn)
+    ∷ has_class (unmarked Yielding Buy 1500 100) at_1500 (Some YieldingIn)
+    ∷ has_class (unmarked Yielding Buy 1499 100) at_1500 None
+    ∷ has_class (unmarked ClosingOffset Buy 1501 100) at_1500 (Some OffsetIn)
+    ∷ has_class (unmarked ClosingOffset Buy 1500 100) at_1500 (Some OffsetIn)
+    ∷ has_class (unmarked ClosingOffset Buy 1499 100) at_1500 None
+    ∷ has_class (unmarked Stop Buy 1500 100) at_1500 (Some MustExecute)
+    ∷ has_class (unmarked Stop Buy 1501 100) at_1500 None
+    -- classes of sells, the mirror image
+    ∷ has_class (unmarked LimitOnClose Sell 1499 100) at_1500 (Some MustExecute)
+    ∷ has_class (unmarked LimitOnClose Sell 1501 100) at_1500 None
+    ∷ has_class (unmarked ClosingOffset Sell 1499 100) at_1500 (Some OffsetIn)
+    ∷ has_class (unmarked ClosingOffset Sell 1501 100) at_1500 None
+    ∷ has_class (unmarked Stop Sell 1500 100) at_1500 (Some MustExecute)
+    ∷ has_class (unmarked Stop Sell 1499 100) at_1500 None
+    -- volumes, and an unfillable price
+    ∷ trade [] at_1500 0
+    ∷ trade (unmarked MarketOnClose Buy 0 6000000 ∷ unmarked MarketOnClose Sell 0 5000000 ∷ unmarked Book Sell 3025 700000 ∷ unmarked Crowd Sell 0 300000 ∷ []) (at_after 3025 (plus_at 3025)) 6000000
+    ∷ are_unfillable (unmarked MarketOnClose Buy 0 100 ∷ []) at_1500
+    -- closing offset orders: after a limit on close, in order of arrival, with equal sides, and filled whole
+    ∷ are_unfillable offset_book (at_after 2001 (plus_at 2000))
+    ∷ trade offset_book (at_after 2002 (plus_at 2000)) 1000
+    ∷ are_filled offset_book (at_after 2002 (plus_at 2000)) (1000 ∷ 300 ∷ 500 ∷ 200 ∷ []) 1000
+    ∷ are_filled (unmarked MarketOnClose Buy 0 50000 ∷ unmarked ClosingOffset Sell 1500 50000 ∷ unmarked ClosingOffset Sell 1500 50000 ∷ []) at_1500 (50000 ∷ 50000 ∷ 0 ∷ []) 50000
+    ∷ are_filled (unmarked MarketOnClose Buy 0 100 ∷ unmarked MarketOnClose Sell 0 100 ∷ unmarked ClosingOffset Buy 1500 100 ∷ []) at_1500 (100 ∷ 100 ∷ 0 ∷ []) 100
+    ∷ are_filled (unmarked MarketOnClose Sell 0 300 ∷ unmarked MarketOnClose Buy 0 100 ∷ unmarked ClosingOffset Buy 1500 200 ∷ []) at_1500 (300 ∷ 100 ∷ 200 ∷ []) 300
+    -- imbalances: counted in hundreds, and against marked orders, which offset only where they are eligible
+    ∷ have_imbalance (unmarked MarketOnClose Buy 0 60099 ∷ unmarked MarketOnClose Sell 0 5000 ∷ unmarked LimitOnClose Sell 1500 4950 ∷ []) at_1500 (pos 50100)
+    ∷ have_imbalance (unmarked MarketOnClose Buy 0 60099 ∷ unmarked MarketOnClose Sell 0 5000 ∷ unmarked LimitOnClose Sell 1500 5100 ∷ []) at_1500 (pos 49900)
+    ∷ have_imbalance (against_marked Buy 1009) (at_after 1010 (plus_at 1011)) (pos 60000)
+    ∷ have_imbalance (against_marked Sell 1011) (at_after 1010 (minus_at 1009)) (neg_ℤ (pos 60000))
+    ∷ have_imbalance (against_marked Buy 1009) (at_after 1010 (plus_at 1009)) (pos 50000)
+    -- one amount shared by both methods
     ∷ shared_by_turns 250 (300 ∷ 50 ∷ 200 ∷ []) (100 ∷ 50 ∷ 100 ∷ [])
     ∷ shared_by_arrival 250 (300 ∷ 50 ∷ 200 ∷ []) (250 ∷ 0 ∷ 0 ∷ [])
-    ∷ trade [] (at_after 1500 1500) 0
-    ∷ are_unfillable (unmarked MarketOnClose Buy 0 100 ∷ []) (at_after 1500 1500)
-    ∷ are_unfillable offset_book (at_after 2001 2000)
-    ∷ trade offset_book (at_after 2002 2000) 1000
-    ∷ are_filled offset_book (at_after 2002 2000) (1000 ∷ 300 ∷ 500 ∷ 200 ∷ [])
     ∷ []
