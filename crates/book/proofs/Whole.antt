@@ -10,7 +10,7 @@ use Rattle.book.specs.Weight.{must_execute, open_to_both, among, ranked, first, 
 use Rattle.book.specs.Volume.{traded}
 use Rattle.book.specs.Fill.{fitting, filled_whole, left_over}
 
--- all that the theorem about fills knows of the two numbers of classes: those that must execute are open to both sides
+-- all that the theorem about fills uses of the two numbers of classes: those that must execute are open to both sides
 pub must_execute_open : (es : List Entry) (s : Side) → must_execute ≤ open_to es s
 unfolding must_execute open_to_both
 must_execute_open es s = grind arith

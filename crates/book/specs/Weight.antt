@@ -7,7 +7,7 @@ use Rattle.order.specs.Classes.{rank_of}
 use Rattle.order.specs.Kinds.{is, facing}
 use Rattle.book.specs.declared.entry.Entry.{Entry}
 
--- how many classes come first and must execute whole: class 0, before the orders on the book at the price
+-- how many classes come first and must execute whole: class 0 alone. The next is that of orders on the book at the price
 unfoldable pub must_execute : ℕ
 must_execute = rank_of BookAt
 

@@ -43,8 +43,8 @@ at_1500 = at_after 1500 (plus_at 1500)
 abbrev quote : ℕ → ℕ → Quote
 quote bid offer = record { bid = bid; offer = offer }
 
--- after a sale at 2000 on a plus tick, a market on close to buy faces three sells: a marked market on close that is better both at 2001 and at 2002, and a
--- limit on close and a closing offset order that are out at 2001 and, at 2002, at the price
+-- after a sale at 2000 on a plus tick, a market on close to buy faces three sells: a marked market on close that is better both at 2001
+-- and at 2002, and a limit on close and a closing offset order that are out at 2001 and, at 2002, at the price
 abbrev offset_book : List Row
 offset_book = unmarked MarketOnClose Buy 0 1000 ∷ marked MarketOnClose Sell 0 300 ∷ unmarked LimitOnClose Sell 2002 500 ∷ unmarked ClosingOffset Sell 2002 400 ∷ []
 
@@ -68,6 +68,8 @@ table =
     ∷ has_class (marked MarketOnClose Sell 0 100) (at_after 1501 (plus_at 1500)) (Some MustExecute)
     ∷ has_class (marked LimitOnClose Sell 1500 100) (at_after 1501 (plus_at 1500)) (Some MustExecute)
     ∷ has_class (marked LimitOnClose Sell 1500 100) at_1500 (Some MarkedLimitAt)
+    ∷ has_class (marked MarketOnClose Buy 0 100) (at_after 1499 (plus_at 1500)) (Some MarkedMarketAt)
+    ∷ has_class (marked LimitOnClose Buy 1501 100) (at_after 1500 (minus_at 1500)) (Some MarkedLimitAt)
     -- classes of unmarked buys, by kind; that of a closing offset order is open to the lighter side only
     ∷ has_class (unmarked MarketOnClose Buy 0 100) at_1500 (Some MustExecute)
     ∷ has_class (unmarked Crowd Buy 0 100) at_1500 (Some MustExecute)
@@ -100,12 +102,13 @@ table =
     ∷ trade [] at_1500 0
     ∷ trade (unmarked MarketOnClose Buy 0 6000000 ∷ unmarked MarketOnClose Sell 0 5000000 ∷ unmarked Book Sell 3025 700000 ∷ unmarked Crowd Sell 0 300000 ∷ []) (at_after 3025 (plus_at 3025)) 6000000
     ∷ are_unfillable (unmarked MarketOnClose Buy 0 100 ∷ []) at_1500
-    -- closing offset orders: after a limit on close, in order of arrival, with equal sides, and filled whole
+    -- closing offset orders: after a limit on close, in order of arrival, with equal sides, on the heavier side, and filled whole
     ∷ are_unfillable offset_book (at_after 2001 (plus_at 2000))
     ∷ trade offset_book (at_after 2002 (plus_at 2000)) 1000
     ∷ are_filled offset_book (at_after 2002 (plus_at 2000)) (1000 ∷ 300 ∷ 500 ∷ 200 ∷ []) 1000
     ∷ are_filled (unmarked MarketOnClose Buy 0 50000 ∷ unmarked ClosingOffset Sell 1500 50000 ∷ unmarked ClosingOffset Sell 1500 50000 ∷ []) at_1500 (50000 ∷ 50000 ∷ 0 ∷ []) 50000
     ∷ are_filled (unmarked MarketOnClose Buy 0 100 ∷ unmarked MarketOnClose Sell 0 100 ∷ unmarked ClosingOffset Buy 1500 100 ∷ []) at_1500 (100 ∷ 100 ∷ 0 ∷ []) 100
+    ∷ are_filled (unmarked MarketOnClose Buy 0 100 ∷ unmarked Book Sell 1500 200 ∷ unmarked ClosingOffset Sell 1500 100 ∷ []) at_1500 (100 ∷ 100 ∷ 0 ∷ []) 100
     ∷ are_filled (unmarked MarketOnClose Sell 0 300 ∷ unmarked MarketOnClose Buy 0 100 ∷ unmarked ClosingOffset Buy 1500 200 ∷ []) at_1500 (300 ∷ 100 ∷ 200 ∷ []) 300
     -- imbalances: counted in hundreds, and against marked orders, which offset only where they are eligible
     ∷ have_imbalance (unmarked MarketOnClose Buy 0 60099 ∷ unmarked MarketOnClose Sell 0 5000 ∷ unmarked LimitOnClose Sell 1500 4950 ∷ []) at_1500 (pos 50100)
