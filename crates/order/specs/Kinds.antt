@@ -41,6 +41,10 @@ is_price p = nat_le 1 p && nat_le p 9999999
 abbrev pub is_size : ℕ → Bool
 is_size n = nat_le 1 n && nat_le n 10000000
 
+-- an order number: 1 to 4,294,967,295
+abbrev pub is_number : ℕ → Bool
+is_number n = nat_le 1 n && nat_le n 4294967295
+
 -- what the price field of a kind may hold: 0 for market on close and crowd interest, a limit or 0 for yielding orders, a trigger for
 -- stops, and a limit for all others
 abbrev pub priced : Kind → ℕ → Bool

@@ -1,6 +1,6 @@
 pub mod Kinds
-pub mod Entered
 pub mod Rows
+pub mod Entered
 pub mod Sales
 pub mod Limits
 pub mod Classes

@@ -21,3 +21,7 @@ MadeFrom row r = MatchResult r (λ order. (sound row ≡ true) × (row_of order 
 -- the same row with other filled shares
 abbrev pub refilled : Row → ℕ → Row
 refilled r n = record r { filled = n }
+
+-- the same row with another size, and no share filled
+abbrev pub resized : Row → ℕ → Row
+resized r n = record r { size = n; filled = 0 }

@@ -1,7 +1,8 @@
-// The kinds and sides of orders, the limits of prices and sizes, and a plain row.
+// The kinds and sides of orders, the limits of prices, sizes and order numbers, and a plain row.
 ghost use Rattle.std.specs.Prelude.{◌≡◌, [], ◌∷◌, Some};
-ghost use Rattle.order.specs.Kinds.{kind_letter, side_letter, priced, on_close, marks};
+ghost use Rattle.order.specs.Kinds.{kind_letter, side_letter, is_price, is_size, is_number, priced, on_close, marks};
 ghost use Rattle.order.specs.Entered.{unfilled_row};
+ghost use Rattle.order.specs.Rows.{resized};
 
 use std::fmt;
 
@@ -10,6 +11,27 @@ pub const MAX_PRICE: u32 = 9_999_999;
 
 /// The largest size, in shares. The smallest is 1.
 pub const MAX_SIZE: u32 = 10_000_000;
+
+/// Whether `price` is within its limits.
+pub fn is_price(price: u32) -> bool
+    ensures value { result ≡ is_price price }
+{
+    (1..=MAX_PRICE).contains(&price)
+}
+
+/// Whether `size` is within its limits.
+pub fn is_size(size: u32) -> bool
+    ensures value { result ≡ is_size size }
+{
+    (1..=MAX_SIZE).contains(&size)
+}
+
+/// Whether `number` may be the number of an order. The highest is the highest that the type holds.
+pub fn is_number(number: u32) -> bool
+    ensures value { result ≡ is_number number }
+{
+    number != 0
+}
 
 /// What an order is.
 #[derive(Clone, Copy, PartialEq, Eq, Debug)]
@@ -69,6 +91,20 @@ impl Row {
             filled: 0,
         }
     }
+
+    /// The same row with another size, and no share filled.
+    pub fn resized(self, size: u32) -> Row
+        ensures value { result ≡ resized self size }
+    {
+        Row::unfilled(
+            self.number,
+            self.kind,
+            self.side,
+            self.marked,
+            self.price,
+            size,
+        )
+    }
 }
 
 impl Kind {
@@ -93,15 +129,14 @@ impl Kind {
     pub fn takes_price(self, price: u32) -> bool
         ensures value { result ≡ priced self price }
     {
-        let is_price = (1..=MAX_PRICE).contains(&price);
         match self {
             Kind::MarketOnClose | Kind::Crowd => price == 0,
             Kind::LimitOnClose
             | Kind::Book
             | Kind::MarketMaker
             | Kind::ClosingOffset
-            | Kind::Stop => is_price,
-            Kind::Yielding => price == 0 || is_price,
+            | Kind::Stop => is_price(price),
+            Kind::Yielding => price == 0 || is_price(price),
         }
     }
 

@@ -7,10 +7,12 @@ mod limit;
 mod record;
 mod sale;
 mod terms;
+mod ticket;
 
 pub use class::Class;
-pub use kind::{Kind, MAX_PRICE, MAX_SIZE, Row, Side};
+pub use kind::{Kind, MAX_PRICE, MAX_SIZE, Row, Side, is_number, is_price, is_size};
 pub use limit::Standing;
 pub use record::{Order, Unsound};
 pub use sale::{Quote, Sale, Tick, next_sale, reference_price};
 pub use terms::Terms;
+pub use ticket::Ticket;

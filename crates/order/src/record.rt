@@ -3,7 +3,7 @@ ghost use Rattle.std.specs.Prelude.{◌≡◌, ◌≤◌, true};
 ghost use Rattle.order.specs.Kinds.{priced, marks};
 
 use crate::class::{Class, class_by};
-use crate::kind::{MAX_SIZE, Row};
+use crate::kind::{Row, is_size};
 use crate::limit::{Standing, is_elected, standing_at};
 use crate::terms::Terms;
 use std::error::Error;
@@ -48,7 +48,7 @@ impl TryFrom<Row> for Order {
     ghost try_from_gives = { MadeFrom };
 
     fn try_from(row: Row) -> Result<Order, Unsound> {
-        if (1..=MAX_SIZE).contains(&row.size)
+        if is_size(row.size)
             && row.filled <= row.size
             && row.kind.takes_price(row.price)
             && row.kind.takes_mark(row.marked)

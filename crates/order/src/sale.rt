@@ -1,8 +1,9 @@
 // The last sale with its tick, the quote, and the reference price.
 ghost use Rattle.std.specs.Prelude.{◌≡◌, Some};
-ghost use Rattle.order.specs.Sales.{sale_after, tick_after, reference};
+ghost use Rattle.order.specs.Sales.{sale_after, tick_after, reference, is_quoted, sound_quote};
 ghost use Rattle.order.specs.Texts.{tick_text};
 
+use crate::kind::is_price;
 use std::cmp::Ordering;
 use std::fmt;
 
@@ -38,6 +39,24 @@ pub struct Sale {
 pub struct Quote {
     pub bid: u32,
     pub offer: u32,
+}
+
+impl Quote {
+    /// Whether bid and offer are within their limits, and the bid is below the offer when neither is 0.
+    pub fn is_sound(self) -> bool
+        ensures value { result ≡ sound_quote self }
+    {
+        is_quoted(self.bid)
+            && is_quoted(self.offer)
+            && (self.bid == 0 || self.offer == 0 || self.bid < self.offer)
+    }
+}
+
+/// Whether `price` may be a bid or an offer: a price, or 0 for an absent one.
+fn is_quoted(price: u32) -> bool
+    ensures value { result ≡ is_quoted price }
+{
+    price == 0 || is_price(price)
 }
 
 /// The sale at `price`, after the one `before` or as the first.
