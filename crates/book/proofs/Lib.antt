@@ -7,3 +7,4 @@ pub mod Planning
 pub mod Tallying
 pub mod Writing
 pub mod Outcome
+pub mod Listing

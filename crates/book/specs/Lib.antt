@@ -6,6 +6,7 @@ pub mod Assignment
 pub mod Theorem
 pub mod Answers
 pub mod Imbalance
+pub mod Listing
 pub mod Plans
 pub mod Tally
 pub mod Texts

@@ -4,6 +4,7 @@
 mod entry;
 mod fills;
 mod imbalance;
+mod lookup;
 mod sides;
 mod totals;
 mod volume;
@@ -11,5 +12,6 @@ mod volume;
 pub use entry::Entry;
 pub use fills::{FillFault, fill};
 pub use imbalance::imbalance_at;
+pub use lookup::find;
 pub use sides::{Cut, Plan, Unfillable};
 pub use volume::{plan, weights};
