@@ -1,5 +1,5 @@
 -- Classes added up, and entries counted one by one. Assumes nothing.
-use Rattle.std.proofs.Common.{◌≡◌, ℕ, zero, suc, ◌+◌, ◌<◌, ◌≤◌, Bool, cond, if◌then◌else◌, ◌&&◌, ltb, List, [], ◌∷◌, map, length, get_or, take, sym, add-one, arith}
+use Rattle.std.proofs.Common.{◌≡◌, ℕ, zero, suc, ◌+◌, ◌*◌, ◌^◌, ◌<◌, ◌≤◌, Bool, cond, if◌then◌else◌, ◌&&◌, ltb, List, [], ◌∷◌, map, length, get_or, take, sym, add-one, arith}
 use Rattle.std.proofs.lemmas.List.Sums.{sum_by_more}
 use Rattle.std.proofs.lemmas.Bool.Decides.{nat_tests}
 use Rattle.order.specs.declared.kind.Row.{Row}
@@ -9,7 +9,7 @@ use Rattle.book.specs.declared.entry.Entry.{Entry}
 use Rattle.book.specs.declared.totals.Tally.{Tally}
 use Rattle.book.specs.declared.totals.Totals.{Totals}
 use Rattle.book.specs.Tally.{together}
-use Rattle.book.specs.Totals.{counted, Tallies, TotalsOf}
+use Rattle.book.specs.Totals.{tallied, counted, Tallies, TotalsOf}
 use Rattle.book.specs.Fill.{filled_whole}
 use Rattle.book.specs.Volume.{traded}
 use Rattle.book.specs.Weight.{ranked, sizes, first, in_class, open_to}
@@ -22,9 +22,27 @@ module _ (p : Entry → Bool) (f : Row → Entry) where
   sizes_more (x ∷ xs) (suc i) d h = rw add-one (omega (arith, rw add-one at (sizes_more xs i d (omega arith))))
 
 -- one row more
-pub tallied_more : (s : Side) (k n : ℕ) (f : Row → Entry) (rows : List Row) (i : ℕ) (d : Row) (e : Entry) → i < length rows → e ≡ f (get_or rows i d)
+tallied_more : (s : Side) (k n : ℕ) (f : Row → Entry) (rows : List Row) (i : ℕ) (d : Row) (e : Entry) → i < length rows → e ≡ f (get_or rows i d)
     → (if ltb k n then in_class (map f (take i rows)) s k else 0) + counted s n k e ≡ (if ltb k n then in_class (map f (take (i + 1) rows)) s k else 0)
 tallied_more s k n f rows i d e h its = grind (arith, its, sizes_more (λ x. is s x.side && ranked k x.rank) f rows i d h)
+
+-- t has counted the n entries es, of which those of the side s count, with the first m classes open
+pub record Counting (es : List Entry) (s : Side) (n m : ℕ) (t : Totals) : Type 0 where
+  pub each : Tallies es s t
+  pub few : together t.tallies ≤ n * 2 ^ 32
+  pub opened : t.classes ≡ m
+
+-- t counts the entry of one row more, and becomes u
+pub counting_more : (s : Side) (m : ℕ) (f : Row → Entry) (rows : List Row) (i : ℕ) (d : Row) (e : Entry) (t u : Totals)
+    → Counting (map f (take i rows)) s i m t → i < length rows → e ≡ f (get_or rows i d) → e.size < 2 ^ 32
+    → ((k : ℕ) → tallied u k ≡ tallied t k + counted s t.classes k e) → u.classes ≡ t.classes → together u.tallies ≤ together t.tallies + e.size
+    → Counting (map f (take (i + 1) rows)) s (i + 1) m u
+counting_more s m f rows i d e t u so_far inside its small after same within =
+    record {
+      each = λ k. simp same (omega (arith, after k, so_far.each k, tallied_more s k t.classes f rows i d e inside its));
+      few = omega arith;
+      opened = cc;
+    }
 
 module _ (es : List Entry) (s : Side) (t : Totals) where
   -- the first n tallies hold together what the side has in its first n classes

@@ -1,7 +1,9 @@
 // The imbalance of a list of orders at the reference price.
-ghost use Rattle.std.specs.Prelude.{◌≡◌, ◌^◌, ◌≤◌, Bool};
+ghost use Rattle.std.specs.Prelude.{◌≡◌, length, ◌^◌, ◌≤◌, ◌&&◌, if◌then◌else◌};
 ghost use Rattle.list.specs.Held.{kept};
-ghost use Rattle.book.specs.Imbalance.{aggregates, hundreds, in_aggregate, in_offset, amount_of};
+ghost use Rattle.order.specs.declared.kind.Side.TheVariants.{Buy, Sell};
+ghost use Rattle.order.specs.Kinds.{is};
+ghost use Rattle.book.specs.Imbalance.{in_hundreds, aggregates, in_aggregate, in_offset, aggregate_of, offset_of, amount_of};
 
 use list::List;
 use order::{Kind, Order, Row, Side, Standing, Terms};
@@ -13,28 +15,63 @@ const ROUND_LOT: u32 = 100;
 pub fn imbalance_at(rows: &List<Row>, terms: Terms) -> i64
     ensures value { result ≡ amount_of (kept rows.now) terms }
 {
-    let buys = hundreds_of(rows, Side::Buy, |row| is_aggregated(row, terms));
-    let sells = hundreds_of(rows, Side::Sell, |row| is_aggregated(row, terms));
-    let buys_offset = hundreds_of(rows, Side::Buy, |row| is_offsetting(row, terms));
-    let sells_offset = hundreds_of(rows, Side::Sell, |row| is_offsetting(row, terms));
+    let rows = rows.elements();
+    let (buys, sells) = aggregates_at(rows, terms);
     if sells < buys {
+        let sells_offset = offset_of(rows, Side::Sell, terms);
         (buys - sells).saturating_sub(sells_offset) as i64
     } else {
+        let buys_offset = offset_of(rows, Side::Buy, terms);
         -((sells - buys).saturating_sub(buys_offset) as i64)
     }
 }
 
-/// The sizes of a side's rows that pass a test, each cut down to a multiple of 100, added up.
-fn hundreds_of<F: Fn(Row) -> bool>(rows: &List<Row>, side: Side, test: F) -> u64
-    requires { F.IsAlwaysCallable test }
-    ensures value { (passes : Row → Bool) → ((row : Row) (b : Bool) → F.post test row b → b ≡ passes row) → result ≡ hundreds passes side (kept rows.now) }
-    ensures few { result ≤ 2 ^ 44 }
+/// The aggregates to buy and to sell.
+fn aggregates_at(rows: &[Row], terms: Terms) -> (u64, u64)
+    requires { length rows.now ≤ 4096 }
+    ensures value { result ≡ (aggregate_of rows.now terms Buy, aggregate_of rows.now terms Sell) }
+    ensures few { (result.0 ≤ 2 ^ 44) × (result.1 ≤ 2 ^ 44) }
 {
-    rows.elements()
-        .iter()
-        .filter(|row| row.side == side && test(**row))
-        .map(|row| u64::from(row.size / ROUND_LOT * ROUND_LOT))
+    let mut buy = 0;
+    let mut sell = 0;
+    for row in rows {
+        if is_aggregated(*row, terms) {
+            let shares = u64::from(in_hundreds(row.size));
+            match row.side {
+                Side::Buy => buy += shares,
+                Side::Sell => sell += shares,
+            }
+        }
+    }
+    (buy, sell)
+}
+
+/// What a side has to offset the other's aggregate.
+fn offset_of(rows: &[Row], side: Side, terms: Terms) -> u64
+    requires { length rows.now ≤ 4096 }
+    ensures value { result ≡ offset_of rows.now terms side }
+{
+    rows.iter()
+        .map(|row| u64::from(offset_in(*row, side, terms)))
         .sum()
+}
+
+/// What an order has to offset the other side's aggregate: nothing if it is not of `side`.
+fn offset_in(row: Row, side: Side, terms: Terms) -> u32
+    ensures value { result ≡ (if is side row.side && in_offset terms row then in_hundreds row.size else 0) }
+{
+    if row.side == side && is_offsetting(row, terms) {
+        in_hundreds(row.size)
+    } else {
+        0
+    }
+}
+
+/// A size cut down to a multiple of 100.
+fn in_hundreds(size: u32) -> u32
+    ensures value { result ≡ in_hundreds size }
+{
+    size / ROUND_LOT * ROUND_LOT
 }
 
 fn is_aggregated(row: Row, terms: Terms) -> bool

@@ -1,4 +1,4 @@
-// The totals of a side: seven tallies, one a class.
+// The totals of both sides: seven tallies each, one a class.
 ghost use Rattle.std.specs.Prelude.{◌≡◌, ℕ, ◌+◌, ◌^◌, ◌<◌, ◌≤◌, length, take};
 ghost use Rattle.book.specs.Entries.{orders_at};
 ghost use Rattle.book.specs.Tally.{together};
@@ -39,10 +39,23 @@ pub(crate) struct Totals {
 }
 
 impl Totals {
-    ghost use Rattle.book.specs.Totals.{tallied, counted, Tallies, SumsFirst, Weighs, MustExecute, Offsets, FillsWhole, CutsAt};
+    ghost use Rattle.book.specs.Totals.{tallied, counted, SumsFirst, Weighs, MustExecute, Offsets, FillsWhole, CutsAt};
+
+    /// The totals of no order, with the first `classes` classes open.
+    fn empty(classes: usize) -> Totals
+        requires { classes ≤ 7 }
+        ensures value { (k : ℕ) → tallied result k ≡ 0 }
+        ensures none { together result.tallies ≡ 0 }
+        ensures same { result.classes ≡ classes }
+    {
+        Totals {
+            tallies: [Tally { shares: 0 }; CLASSES],
+            classes,
+        }
+    }
 
     /// Counts an entry: one of `side`, in a class that is open, raises its class's tally by its size.
-    pub(crate) fn count(&mut self, side: Side, entry: Entry)
+    fn count(&mut self, side: Side, entry: Entry)
         requires { together self.old.tallies + entry.size < 2 ^ 64 }
         ensures after { (k : ℕ) → tallied self.new k ≡ tallied self.old k + counted side self.old.classes k entry }
         ensures same { self.new.classes ≡ self.old.classes }
@@ -63,22 +76,6 @@ impl Totals {
         ensures value { SumsFirst self.now count result }
     {
         self.tallies[..count].iter().map(|tally| tally.shares).sum()
-    }
-
-    /// The totals of `side` on these terms, with the first `classes` classes open to it.
-    pub(crate) fn of(rows: &List<Row>, side: Side, terms: Terms, classes: usize) -> Totals
-        requires { classes ≤ 7 }
-        ensures value { Tallies (orders_at rows.now terms) side result }
-        ensures same { result.classes ≡ classes }
-    {
-        let mut totals = Totals {
-            tallies: [Tally { shares: 0 }; CLASSES],
-            classes,
-        };
-        for row in rows.elements() {
-            totals.count(side, Entry::at(*row, terms));
-        }
-        totals
     }
 
     /// W of the side.
@@ -123,5 +120,39 @@ impl Totals {
         let whole = self.fitting_whole(volume);
         let left = volume.saturating_sub(self.sum_of_first(whole));
         Cut { whole, left }
+    }
+}
+
+/// The totals of both sides.
+#[derive(Clone, Copy, PartialEq, Eq, Debug)]
+pub(crate) struct TotalsBySide {
+    pub buy: Totals,
+    pub sell: Totals,
+}
+
+impl TotalsBySide {
+    ghost use Rattle.order.specs.declared.kind.Side.TheVariants.{Buy, Sell};
+    ghost use Rattle.book.specs.Totals.{Tallies};
+
+    /// The totals on these terms, with the first `buy_classes` classes open to buys and the first `sell_classes` to sells.
+    pub(crate) fn of(
+        rows: &List<Row>,
+        terms: Terms,
+        buy_classes: usize,
+        sell_classes: usize,
+    ) -> TotalsBySide
+        requires { (buy_classes ≤ 7) × (sell_classes ≤ 7) }
+        ensures buy { Tallies (orders_at rows.now terms) Buy result.buy }
+        ensures sell { Tallies (orders_at rows.now terms) Sell result.sell }
+        ensures same { (result.buy.classes ≡ buy_classes) × (result.sell.classes ≡ sell_classes) }
+    {
+        let mut buy = Totals::empty(buy_classes);
+        let mut sell = Totals::empty(sell_classes);
+        for row in rows.elements() {
+            let entry = Entry::at(*row, terms);
+            buy.count(Side::Buy, entry);
+            sell.count(Side::Sell, entry);
+        }
+        TotalsBySide { buy, sell }
     }
 }

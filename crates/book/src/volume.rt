@@ -10,17 +10,19 @@ ghost use Rattle.book.specs.Weight.{weight};
 
 use crate::entry::{OPEN_TO_BOTH, open_to};
 use crate::sides::{Plan, Unfillable};
-use crate::totals::Totals;
+use crate::totals::{Totals, TotalsBySide};
 use list::List;
-use order::{Row, Side, Terms};
+use order::{Row, Terms};
 use std::cmp::Ordering;
 
 /// W to buy and W to sell on these terms: what each side has in the classes 0 to 5.
+#[tactic(auto, unfolding(crate::specs::Weight::open_to_both))]
 pub fn weights(rows: &List<Row>, terms: Terms) -> (u64, u64)
     ensures value { result ≡ (weight (orders_at rows.now terms) Buy, weight (orders_at rows.now terms) Sell) }
 {
-    let buy = weight_of(rows, Side::Buy, terms);
-    let sell = weight_of(rows, Side::Sell, terms);
+    let totals = TotalsBySide::of(rows, terms, OPEN_TO_BOTH, OPEN_TO_BOTH);
+    let buy = totals.buy.sum_of_first(OPEN_TO_BOTH);
+    let sell = totals.sell.sum_of_first(OPEN_TO_BOTH);
     (buy, sell)
 }
 
@@ -30,26 +32,17 @@ pub fn plan(rows: &List<Row>, terms: Terms) -> Result<Plan, Unfillable>
     ensures value { result ≡ plan_at (orders_at rows.now terms) }
     ensures largest { MatchResult result (λ found. Largest (orders_at rows.now terms) found.volume) (λ _. NoAssignment (orders_at rows.now terms)) }
 {
-    let (buys, sells) = totals_at(rows, terms);
-    plan_by(&buys, &sells)
-}
-
-#[tactic(auto, unfolding(crate::specs::Weight::open_to_both))]
-fn weight_of(rows: &List<Row>, side: Side, terms: Terms) -> u64
-    ensures value { result ≡ weight (orders_at rows.now terms) side }
-{
-    Totals::of(rows, side, terms, OPEN_TO_BOTH).sum_of_first(OPEN_TO_BOTH)
+    let totals = totals_at(rows, terms);
+    plan_by(&totals.buy, &totals.sell)
 }
 
 /// The totals to buy and to sell, each of the classes that are open to its side.
-fn totals_at(rows: &List<Row>, terms: Terms) -> (Totals, Totals)
-    ensures buy { TotalsOf (orders_at rows.now terms) Buy result.0 }
-    ensures sell { TotalsOf (orders_at rows.now terms) Sell result.1 }
+fn totals_at(rows: &List<Row>, terms: Terms) -> TotalsBySide
+    ensures buy { TotalsOf (orders_at rows.now terms) Buy result.buy }
+    ensures sell { TotalsOf (orders_at rows.now terms) Sell result.sell }
 {
     let (buy, sell) = weights(rows, terms);
-    let buys = Totals::of(rows, Side::Buy, terms, open_to(buy, sell));
-    let sells = Totals::of(rows, Side::Sell, terms, open_to(sell, buy));
-    (buys, sells)
+    TotalsBySide::of(rows, terms, open_to(buy, sell), open_to(sell, buy))
 }
 
 /// V, of the W to buy and to sell and the closing offset orders to buy and to sell: the lesser of the heavier W and the lighter W plus the
