@@ -1,0 +1,2 @@
+pub mod Phases
+pub mod Table
