@@ -1,0 +1,4 @@
+pub mod Asking
+pub mod Rows
+pub mod Steps
+pub mod Runs

@@ -1,0 +1,12 @@
+pub mod States
+pub mod Questions
+pub mod Replies
+pub mod Notices
+pub mod Answers
+pub mod Changes
+pub mod Ledgers
+pub mod Agreement
+pub mod Lives
+pub mod Laws
+pub mod Runs
+pub mod Texts
