@@ -1,7 +1,10 @@
 -- A test of each example, and that an example that passes holds. Assumes nothing.
-use Rattle.std.proofs.Common.{◌≡◌, ℕ, ◌≤◌, Bool, true, false, not, ◌&&◌, eqb, List, [], ◌∷◌, Some, None, Option, sym, refl, ap, true≢false, arith}
+use Rattle.std.proofs.Common.{◌≡◌, ℕ, ◌≤◌, Bool, true, false, not, ◌&&◌, eqb, List, [], ◌∷◌, Some, None, Option, Ok, Err, Result, sym, refl, ap, true≢false, arith}
+use Rattle.std.specs.Bool.{beq}
+use Rattle.std.specs.Cmp.{booleans_Decides}
 use Rattle.std.specs.Option.{option_eq}
 use Rattle.std.specs.Ordering.{int_eq}
+use Rattle.std.specs.Result.{result_eq}
 use Rattle.std.specs.Str.{bytes_eq as list_eq}
 use Rattle.std.proofs.lemmas.Bool.{and_parts, not-true, eqb-true}
 use Rattle.std.proofs.lemmas.Bool.Decides.{nat_tests, Decides-int_eq}
@@ -9,13 +12,14 @@ use Rattle.std.proofs.lemmas.Slice.Eq.{bytes_eq-Decides as list_eq-Decides}
 use denote.Enum.Bare.{sameb, same_true}
 use Rattle.order.specs.contracts.class.Class.{the_type as the_class}
 use Rattle.order.specs.contracts.limit.Standing.{the_type as the_standing}
+use Rattle.order.specs.contracts.sale.Tick.{the_type as the_tick}
 use Rattle.order.specs.declared.class.Class.{Class}
 use Rattle.order.specs.declared.kind.Side.{Side}
 use Rattle.order.specs.declared.kind.Side.TheVariants.{Buy, Sell}
 use Rattle.order.specs.declared.limit.Standing.TheVariants.{Out}
 use Rattle.order.specs.Classes.{class_of}
 use Rattle.order.specs.Limits.{effective, standing_by, standing_of}
-use Rattle.order.specs.Sales.{reference}
+use Rattle.order.specs.Sales.{reference, tick_after}
 use Rattle.sharing.specs.Arrival.{arrival}
 use Rattle.sharing.specs.Turns.{turns}
 use Rattle.book.specs.declared.entry.Entry.{Entry}
@@ -23,7 +27,14 @@ use Rattle.book.specs.Entries.{entries}
 use Rattle.book.specs.Imbalance.{amount_of}
 use Rattle.book.specs.Volume.{traded, unfillable}
 use Rattle.book.proofs.Stands.{none, by_arrival, largest}
-use Rattle.examples.specs.Examples.{Example, has_reference, has_standing, is_always_out, has_class, trade, are_unfillable, are_filled, have_imbalance, shared_by_arrival, shared_by_turns, fills_by_arrival, Holds, AllHold}
+use Rattle.clock.specs.contracts.table.Allowance.{the_type as the_allowance}
+use Rattle.clock.specs.Phases.{phase_at}
+use Rattle.clock.specs.Table.{allowed_in}
+use Rattle.session.specs.contracts.fault.SessionFault.{the_type as the_fault}
+use Rattle.session.specs.declared.fault.SessionFault.{SessionFault}
+use Rattle.session.specs.declared.notice.Notice.{Notice}
+use Rattle.session.specs.Answers.{entry_answer, publication_answer}
+use Rattle.examples.specs.Examples.{Example, has_reference, has_tick, has_standing, is_always_out, has_class, trade, are_unfillable, are_filled, have_imbalance, has_allowance, has_entry, has_publication, shared_by_arrival, shared_by_turns, fills_by_arrival, Holds, AllHold}
 
 -- a buy that is held to 0, which no price meets
 abbrev held_to_nothing : Side → Option ℕ → Bool
@@ -35,9 +46,22 @@ held_to_nothing Sell limit = false
 abbrev trades_so : List Entry → ℕ → Bool
 trades_so es v = not (unfillable es) && eqb (traded es) v
 
+-- two notices are the same
+abbrev notice_eq : Notice → Notice → Bool
+notice_eq m n = int_eq m.amount n.amount && eqb m.reference n.reference && beq m.mandatory n.mandatory
+
+-- two answers with nothing more to say are the same
+abbrev nothing_eq : Unit {0} → Unit {0} → Bool
+nothing_eq a b = true
+
+-- two answers are the same, where a test says so of what they say when they are accepted
+abbrev answer_eq : {T : Type 0} → (T → T → Bool) → Result T SessionFault → Result T SessionFault → Bool
+answer_eq same a b = result_eq same (sameb the_fault) a b
+
 -- the test of an example
 abbrev passes : Example → Bool
 passes (has_reference last quote p) = eqb (reference last quote) p
+passes (has_tick last p tick) = sameb the_tick (tick_after last p) tick
 passes (has_standing row terms standing) = sameb the_standing (standing_of row terms) standing
 passes (is_always_out row last) = held_to_nothing row.side (effective row last)
 passes (has_class row terms class) = option_eq (sameb the_class) (class_of row terms) class
@@ -45,6 +69,9 @@ passes (trade rows terms v) = trades_so (entries terms rows) v
 passes (are_unfillable rows terms) = unfillable (entries terms rows)
 passes (are_filled rows terms fills v) = list_eq (fills_by_arrival (entries terms rows)) fills && trades_so (entries terms rows) v
 passes (have_imbalance rows terms n) = int_eq (amount_of rows terms) n
+passes (has_allowance time event allowance) = sameb the_allowance (allowed_in (phase_at time) event) allowance
+passes (has_entry s rows notices ticket reply) = answer_eq nothing_eq (entry_answer s rows false notices ticket) reply
+passes (has_publication s rows notices significant answer) = answer_eq notice_eq (publication_answer s rows notices false significant) answer
 passes (shared_by_arrival amount claims gifts) = list_eq (arrival amount claims) gifts
 passes (shared_by_turns amount claims gifts) = list_eq (turns amount claims) gifts
 
@@ -64,11 +91,30 @@ same_class None (Some c) e = absurd (true≢false (sym e))
 same_class (Some b) None e = absurd (true≢false (sym e))
 same_class (Some b) (Some c) e = ap Some (same_true the_class tt b c e)
 
+same_notice : (m n : Notice) → notice_eq m n ≡ true → m ≡ n
+same_notice m n t =
+    let all = and_parts _ _ t in
+    let numbers = and_parts _ _ all.0 in
+    let same_amount = (Decides-int_eq m.amount n.amount).0 numbers.0 in
+    let same_reference = eqb-true m.reference n.reference numbers.1 in
+    let same_mandatory = (booleans_Decides m.mandatory n.mandatory).0 all.1 in
+    λ i. record { amount = same_amount i; reference = same_reference i; mandatory = same_mandatory i }
+
+same_nothing : (a b : Unit {0}) → nothing_eq a b ≡ true → a ≡ b
+same_nothing a b t = refl
+
+same_answer : {T : Type 0} (same : T → T → Bool) → ((m n : T) → same m n ≡ true → m ≡ n) → (a b : Result T SessionFault) → answer_eq same a b ≡ true → a ≡ b
+same_answer same alike (Ok m) (Ok n) e = ap Ok (alike m n e)
+same_answer same alike (Ok m) (Err g) e = absurd (true≢false (sym e))
+same_answer same alike (Err f) (Ok n) e = absurd (true≢false (sym e))
+same_answer same alike (Err f) (Err g) e = ap Err (same_true the_fault tt f g e)
+
 trades_so_is : (es : List Entry) (v : ℕ) → trades_so es v ≡ true → (unfillable es ≡ false) × (traded es ≡ v)
 trades_so_is es v t = let both = and_parts _ _ t in (not-true _ both.0, eqb-true _ v both.1)
 
 holds : (e : Example) → passes e ≡ true → Holds e
 holds (has_reference last quote p) t = eqb-true _ p t
+holds (has_tick last p tick) t = same_true the_tick tt _ tick t
 holds (has_standing row terms standing) t = same_true the_standing tt _ standing t
 holds (is_always_out row last) t = always_out row.side (effective row last) t
 holds (has_class row terms class) t = same_class _ class t
@@ -80,6 +126,9 @@ holds (are_filled rows terms fills v) t =
     let so = trades_so_is (entries terms rows) v both.1 in
     (same, rw (← same, ← so.1) (by_arrival _ so.0))
 holds (have_imbalance rows terms n) t = (Decides-int_eq _ n).0 t
+holds (has_allowance time event allowance) t = same_true the_allowance tt _ allowance t
+holds (has_entry s rows notices ticket reply) t = same_answer nothing_eq same_nothing _ reply t
+holds (has_publication s rows notices significant answer) t = same_answer notice_eq same_notice _ answer t
 holds (shared_by_arrival amount claims gifts) t = (list_eq-Decides _ gifts).0 t
 holds (shared_by_turns amount claims gifts) t = (list_eq-Decides _ gifts).0 t
 

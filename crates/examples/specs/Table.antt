@@ -1,5 +1,5 @@
 -- The table of worked examples. Assumes nothing.
-use Rattle.std.specs.Prelude.{ℕ, true, false, List, [], ◌∷◌, pos, neg_ℤ, Some, None}
+use Rattle.std.specs.Prelude.{ℕ, Bool, true, false, List, [], ◌∷◌, ℤ, pos, neg_ℤ, Some, None, Ok, Err}
 use Rattle.order.specs.declared.class.Class.TheVariants.{MustExecute, BookAt, LimitAt, MarkedMarketAt, MarkedLimitAt, YieldingIn, OffsetIn}
 use Rattle.order.specs.declared.kind.Kind.{Kind}
 use Rattle.order.specs.declared.kind.Kind.TheVariants.{MarketOnClose, Crowd, LimitOnClose, Book, MarketMaker, ClosingOffset, Yielding, Stop}
@@ -11,9 +11,15 @@ use Rattle.order.specs.declared.sale.Tick.TheVariants.{Plus, Minus}
 use Rattle.order.specs.declared.sale.Sale.{Sale}
 use Rattle.order.specs.declared.sale.Quote.{Quote}
 use Rattle.order.specs.declared.terms.Terms.{Terms}
-use Rattle.order.specs.Entered.{unfilled_row}
+use Rattle.order.specs.Entered.{unfilled_row, ticket_of}
 use Rattle.order.specs.Kinds.{facing}
-use Rattle.examples.specs.Examples.{Example, has_reference, has_standing, is_always_out, has_class, trade, are_unfillable, are_filled, have_imbalance, shared_by_arrival, shared_by_turns}
+use Rattle.clock.specs.declared.table.Allowance.TheVariants.{Yes, AgainstNotice, No}
+use Rattle.clock.specs.declared.table.Event.TheVariants as event
+use Rattle.session.specs.declared.fault.SessionFault.TheVariants.{OutOfLimits, NotNow, NoNotice, AlreadyListed, NoSale, AlreadyMandatory, Insignificant}
+use Rattle.session.specs.declared.notice.Notice.{Notice}
+use Rattle.session.specs.Replies.{accepted}
+use Rattle.session.specs.States.{State, opened}
+use Rattle.examples.specs.Examples.{Example, has_reference, has_tick, has_standing, is_always_out, has_class, trade, are_unfillable, are_filled, have_imbalance, has_allowance, has_entry, has_publication, shared_by_arrival, shared_by_turns}
 
 -- the row of an order of a kind, side, price and size, without a mark
 abbrev unmarked : Kind → Side → ℕ → ℕ → Row
@@ -52,6 +58,22 @@ offset_book = unmarked MarketOnClose Buy 0 1000 ∷ marked MarketOnClose Sell 0 
 abbrev against_marked : Side → ℕ → List Row
 against_marked side limit = unmarked MarketOnClose side 0 60000 ∷ marked MarketOnClose (facing side) 0 5000 ∷ marked LimitOnClose (facing side) limit 5000 ∷ []
 
+-- a market on close to buy faces a market on close to sell and, at 1500, a limit on close to sell of this size
+abbrev imbalance_book : ℕ → List Row
+imbalance_book n = unmarked MarketOnClose Buy 0 60099 ∷ unmarked MarketOnClose Sell 0 5000 ∷ unmarked LimitOnClose Sell 1500 n ∷ []
+
+-- a session at a time, after a last sale at 1500 on a plus tick and without a quote
+abbrev session_at : ℕ → State
+session_at time = record opened { time = time; sale = Some (plus_at 1500) }
+
+-- a notice of an amount at the reference price 1500, mandatory or not
+abbrev notice : ℤ → Bool → Notice
+notice amount mandatory = record { amount = amount; reference = 1500; mandatory = mandatory }
+
+-- a notice of 50,000 shares to buy, mandatory or not
+abbrev notice_to_buy : Bool → Notice
+notice_to_buy mandatory = notice (pos 50000) mandatory
+
 -- the worked examples
 abbrev pub table : List Example
 table =
@@ -59,6 +81,9 @@ table =
     has_reference 1500 (quote 1502 1520) 1502
     ∷ has_reference 1500 (quote 1491 1499) 1499
     ∷ has_reference 1500 (quote 1498 1502) 1500
+    -- ticks: an equal sale keeps the tick, and a first sale is a plus tick
+    ∷ has_tick (Some (minus_at 2000)) 2000 Minus
+    ∷ has_tick None 2000 Plus
     -- marked orders, held to the tick bound
     ∷ has_standing (marked LimitOnClose Sell 1009 100) (at_after 1010 (plus_at 1011)) Out
     ∷ has_standing (marked LimitOnClose Buy 1011 100) (at_after 1010 (minus_at 1009)) Out
@@ -111,11 +136,58 @@ table =
     ∷ are_filled (unmarked MarketOnClose Buy 0 100 ∷ unmarked Book Sell 1500 200 ∷ unmarked ClosingOffset Sell 1500 100 ∷ []) at_1500 (100 ∷ 100 ∷ 0 ∷ []) 100
     ∷ are_filled (unmarked MarketOnClose Sell 0 300 ∷ unmarked MarketOnClose Buy 0 100 ∷ unmarked ClosingOffset Buy 1500 200 ∷ []) at_1500 (300 ∷ 100 ∷ 200 ∷ []) 300
     -- imbalances: counted in hundreds, and against marked orders, which offset only where they are eligible
-    ∷ have_imbalance (unmarked MarketOnClose Buy 0 60099 ∷ unmarked MarketOnClose Sell 0 5000 ∷ unmarked LimitOnClose Sell 1500 4950 ∷ []) at_1500 (pos 50100)
-    ∷ have_imbalance (unmarked MarketOnClose Buy 0 60099 ∷ unmarked MarketOnClose Sell 0 5000 ∷ unmarked LimitOnClose Sell 1500 5100 ∷ []) at_1500 (pos 49900)
+    ∷ have_imbalance (imbalance_book 4950) at_1500 (pos 50100)
+    ∷ have_imbalance (imbalance_book 5100) at_1500 (pos 49900)
     ∷ have_imbalance (against_marked Buy 1009) (at_after 1010 (plus_at 1011)) (pos 60000)
     ∷ have_imbalance (against_marked Sell 1011) (at_after 1010 (minus_at 1009)) (neg_ℤ (pos 60000))
     ∷ have_imbalance (against_marked Buy 1009) (at_after 1010 (plus_at 1009)) (pos 50000)
+    -- the clock, at the last second of a phase and the first of the next: market on close comes in and goes off
+    ∷ has_allowance 56699 (event.In MarketOnClose) Yes
+    ∷ has_allowance 56700 (event.In MarketOnClose) AgainstNotice
+    ∷ has_allowance 57599 (event.In MarketOnClose) AgainstNotice
+    ∷ has_allowance 57600 (event.In MarketOnClose) No
+    ∷ has_allowance 56699 (event.Off MarketOnClose false) Yes
+    ∷ has_allowance 56700 (event.Off MarketOnClose false) No
+    -- closing offset orders go off from 15:45 with the error flag only, and not at all from 15:58, and come in until 16:00
+    ∷ has_allowance 56700 (event.Off ClosingOffset true) Yes
+    ∷ has_allowance 57479 (event.Off ClosingOffset true) Yes
+    ∷ has_allowance 57480 (event.Off ClosingOffset true) No
+    ∷ has_allowance 56700 (event.Off ClosingOffset false) No
+    ∷ has_allowance 57599 (event.In ClosingOffset) Yes
+    ∷ has_allowance 57600 (event.In ClosingOffset) No
+    -- book orders go off until 16:00; crowd and market maker interest comes in and goes off at any time
+    ∷ has_allowance 57599 (event.Off Book false) Yes
+    ∷ has_allowance 57600 (event.Off Book false) No
+    ∷ has_allowance 57600 (event.In Crowd) Yes
+    ∷ has_allowance 57600 (event.Off MarketMaker false) Yes
+    -- sales, quotes and publications end at 16:00, when the close is allowed
+    ∷ has_allowance 57599 event.Sale Yes
+    ∷ has_allowance 57600 event.Quote No
+    ∷ has_allowance 57600 event.Publication No
+    ∷ has_allowance 57599 event.Close No
+    ∷ has_allowance 57600 event.Close Yes
+    -- entries at 15:45: only a mandatory notice for the other side lets market on close and limit on close in
+    ∷ has_entry (session_at 56700) [] (notice_to_buy true ∷ []) (ticket_of (unmarked LimitOnClose Sell 1500 100)) accepted
+    ∷ has_entry (session_at 56700) [] (notice_to_buy true ∷ []) (ticket_of (unmarked LimitOnClose Buy 1500 100)) (Err NoNotice)
+    ∷ has_entry (session_at 56700) [] (notice_to_buy false ∷ []) (ticket_of (unmarked LimitOnClose Sell 1500 100)) (Err NoNotice)
+    ∷ has_entry (session_at 56700) [] [] (ticket_of (unmarked MarketOnClose Sell 0 100)) (Err NoNotice)
+    ∷ has_entry (session_at 56700) [] [] (ticket_of (unmarked Book Sell 1500 100)) accepted
+    -- a number that is listed already, a market on close with a price, the number 0, and a mark on a book order
+    ∷ has_entry (session_at 56700) (unmarked Book Buy 1500 100 ∷ []) [] (ticket_of (unmarked Book Sell 1500 100)) (Err AlreadyListed)
+    ∷ has_entry (session_at 56700) [] (notice_to_buy true ∷ []) (ticket_of (unmarked MarketOnClose Sell 1500 100)) (Err OutOfLimits)
+    ∷ has_entry (session_at 56700) [] [] (ticket_of (unfilled_row 0 Book Sell false 1500 100)) (Err OutOfLimits)
+    ∷ has_entry (session_at 56700) [] [] (ticket_of (marked Book Sell 1500 100)) (Err OutOfLimits)
+    -- publications: question 18 is answered no where the amount is 0 and, from 15:45, where it is below 50,000 and not flagged; nothing is
+    -- published after a mandatory notice, before a sale, or from 16:00
+    ∷ has_publication (session_at 56700) (imbalance_book 4950) [] false (Ok (notice (pos 50100) true))
+    ∷ has_publication (session_at 56700) (imbalance_book 5000) [] false (Ok (notice (pos 50000) true))
+    ∷ has_publication (session_at 56700) (imbalance_book 5100) [] false (Err Insignificant)
+    ∷ has_publication (session_at 56700) (imbalance_book 5100) [] true (Ok (notice (pos 49900) true))
+    ∷ has_publication (session_at 56699) (imbalance_book 5100) [] false (Ok (notice (pos 49900) false))
+    ∷ has_publication (session_at 56699) (imbalance_book 55000) [] true (Err Insignificant)
+    ∷ has_publication (session_at 56700) (imbalance_book 4950) (notice (pos 50100) true ∷ []) false (Err AlreadyMandatory)
+    ∷ has_publication opened (imbalance_book 4950) [] false (Err NoSale)
+    ∷ has_publication (session_at 57600) (imbalance_book 4950) [] false (Err NotNow)
     -- one amount shared by both methods
     ∷ shared_by_turns 250 (300 ∷ 50 ∷ 200 ∷ []) (100 ∷ 50 ∷ 100 ∷ [])
     ∷ shared_by_arrival 250 (300 ∷ 50 ∷ 200 ∷ []) (250 ∷ 0 ∷ 0 ∷ [])

@@ -1,10 +1,11 @@
 use Rattle.std.proofs.Common.{refl}
 use Rattle.book.specs.Weight.{must_execute, open_to_both}
+use Rattle.clock.specs.Table.{line_of}
 use Rattle.examples.specs.Table.{table}
 use Rattle.examples.proofs.Passing.{all_hold}
 use Rattle.examples.proofs.worked.Goals as goal
 
 -- one comparison over the whole table
 pub returns : goal.returns
-unfolding must_execute open_to_both
+unfolding must_execute open_to_both line_of
 returns c = record { value = refl; hold = all_hold table refl }
