@@ -39,7 +39,7 @@ fn run(rt: &HostRuntime) -> Result<(), Trouble> {
         .map_err(Trouble::Output)
 }
 
-// An `Err` that `main` returns would be printed by `Debug` after `Error: `. Both programs have these lines: a crate for them would be longer.
+// An `Err` that `main` returns would be printed by `Debug` after `Error: `. Each program has these lines: a crate for them would be longer.
 fn main(rt: HostRuntime) -> ExitCode {
     match run(&rt) {
         Ok(()) => ExitCode::SUCCESS,
