@@ -1,4 +1,4 @@
-// The calls of the sample day, from the morning to 16:00.
+// The calls of the sample day, from the morning to five seconds past 16:00.
 use crate::calls::PrintedSession;
 use list::List;
 use order::{Kind, Row, Side};

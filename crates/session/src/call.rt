@@ -1,7 +1,7 @@
 // The calls of a session's life.
 use order::{Quote, Ticket};
 
-/// A call of a session's life, with its arguments. Lists are lent to a call, and are none of them.
+/// A call of a session's life, with its arguments. The lists that it is lent are not part of it.
 #[derive(Clone, Copy, PartialEq, Eq, Debug)]
 pub enum Call {
     Time(u32),
