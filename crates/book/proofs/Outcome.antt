@@ -53,7 +53,7 @@ module _ (f : Filling) (rows : List Row) (by_plan : f.plan ≡ planned (entries 
 given_is : (r : Row) (n : ℕ) → n ≤ r.size → (sound r ≡ false → n ≡ 0) → given_of (given_row r n) ≡ n
 given_is r n h z = grind (arith, nat_tests)
 
-kept_rewritten : {T : Type 0} (l : Held T) (xs : List T) → length xs ≡ held l → kept (rewritten l xs) ≡ xs
+pub kept_rewritten : {T : Type 0} (l : Held T) (xs : List T) → length xs ≡ held l → kept (rewritten l xs) ≡ xs
 kept_rewritten l xs e =
     let rest = drop (held l) (contents l) in
     take_at xs rest (held (rewritten l xs)) (omega (arith, length-append xs rest, length-drop (held l) (contents l)))

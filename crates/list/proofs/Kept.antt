@@ -6,7 +6,7 @@ use Rattle.std.proofs.lemmas.List.{places, take_at, take_more_set, length-set, l
 use Rattle.std.proofs.lemmas.List.Edits.{length-remove}
 use Rattle.std.proofs.Math.Seq.{take-set-lt}
 use Rattle.list.specs.declared.List.{List as Held}
-use Rattle.list.specs.Held.{contents, held, kept, full, appended, written, without}
+use Rattle.list.specs.Held.{contents, held, kept, full, appended, written, without, emptied}
 
 module _ {T : Type 0} (l : Held T) where
   held-appended : (x : T) → full l ≡ false → held (appended l x) ≡ held l + 1
@@ -27,3 +27,6 @@ module _ {T : Type 0} (l : Held T) where
 
   pub kept-without : (i : ℕ) → i < length (kept l) → kept (without l i) ≡ remove (kept l) i
   kept-without i inside = grind (arith, places, take_at, length-remove, length-take-le)
+
+  pub kept-emptied : kept (emptied l) ≡ []
+  kept-emptied = let none : held (emptied l) ≡ 0 = omega arith in rw none refl

@@ -23,19 +23,26 @@ use Rattle.clock.specs.Table.{wants_notice}
 use Rattle.clock.proofs.Late.{late_wants_notice}
 use Rattle.session.specs.declared.call.Call.TheVariants.{Time, Sale, Quote, Entry, Cancel, Reduction, Publication}
 use Rattle.session.specs.declared.call.Call.{Call}
+use Rattle.session.specs.declared.call.Outcome.{Outcome}
+use Rattle.session.specs.declared.call.Outcome.TheVariants.{Taken, Published}
+use Rattle.session.specs.declared.fault.SessionFault.{SessionFault}
 use Rattle.session.specs.declared.fault.SessionFault.TheVariants.{Done, NotNow, NoSale, AlreadyMandatory, Insignificant, NoticesFull}
 use Rattle.session.specs.declared.notice.Notice.{Notice}
 use Rattle.session.specs.declared.orders.Found.{Found}
-use Rattle.session.specs.Agreement.{KeepsLedger}
+use Rattle.session.specs.Agreement.{Agrees, KeepsLedger}
 use Rattle.session.specs.Answers.{allowance_of, lets_now, listed_at, entry_answer, cancel_answer, reduction_answer, publication_answer}
 use Rattle.session.specs.Changes.{at_time, after_sale, after_quote}
-use Rattle.session.specs.Ledgers.{noted, without_first, with_first_sized}
-use Rattle.session.specs.Lives.{Life, begun, later, ledger_of, notices_of}
-use Rattle.session.specs.Laws.{Lawful, Lived, KeepsLife, Heeds, HaveOwnNumbers, mandatory_count, numbers}
+use Rattle.session.specs.Ledgers.{Ledger, noted, without_first, with_first_sized}
+use Rattle.session.specs.Lives.{Life, begun, later, ledger_of, notices_of, was_closed}
+use Rattle.session.specs.Laws.{Lawful, Lived, KeepsLife, Heeds, AllUpheld, HaveOwnNumbers, mandatory_count, numbers}
 use Rattle.session.specs.Notices.{reference_of, notice_of, is_faced, has_mandatory, is_notable}
-use Rattle.session.specs.Replies.{Reply, accepted, answer_of, taken, published}
+use Rattle.session.specs.Questions.{refused_with}
+use Rattle.session.specs.Replies.{Answer, accepted, is_print}
 use Rattle.session.specs.States.{State, opened}
+use Rattle.session.specs.Upheld.{UpheldBy, filled_shares}
 use Rattle.session.proofs.Asking.{yes-from_ask, some-from_ask_for}
+use Rattle.session.proofs.Grounds.{Grounds}
+use Rattle.session.proofs.Upheld.{is_close, all_upheld_with, other_upheld, refusal_upheld}
 use Rattle.session.proofs.Rows.{without-rows, sized-rows, new-number, once-without, numbers-sized, sound-entered, sound-resized, all_sound-without}
 
 -- the questions of an accepted entry, all answered yes
@@ -87,9 +94,18 @@ HaveOthers n orders = (k d : ℕ) → k < length (numbers orders) → get_or (nu
 once-push : (orders : List Ticket) (t : Ticket) → HaveOthers t.number orders → HaveOwnNumbers orders → HaveOwnNumbers (orders ++ t ∷ [])
 once-push orders t others once = rw (map-append (λ (u : Ticket). u.number) orders (t ∷ [])) (all_pairs_push (λ m n. m ≢ n) (numbers orders) t.number once others)
 
+-- a call other than a close, accepted by a session that is not done
+module _ (life : Life) (call : Call) (outcome : Outcome) (other : is_close call ≡ false) (no_print : is_print (Ok outcome) ≡ false) (undone : was_closed life ≡ false) where
+  end_after : was_closed (later life call (Ok outcome)) ≡ false
+  end_after = rw (undone, no_print) refl
+
+  upheld_after : (xs ys : List ℕ) → AllUpheld life xs → AllUpheld (later life call (Ok outcome)) ys
+  upheld_after xs ys u = (all_upheld_with life xs ys undone u, other_upheld (ledger_of life) call (Ok outcome) ys other no_print (λ e. absurd (true≢false (sym e))) refl refl)
+
 -- an accepted call keeps a life lawful where it heeds the notices, and leaves each order its own number
-taken_lawful : (life : Life) (call : Call) → HaveOwnNumbers (noted (ledger_of life) call).orders → Heeds life call → Lawful life → Lawful (later life call taken)
-taken_lawful life call once heeds old = record { once = once; heeded = (old.heeded, λ _. heeds); marked = old.marked; one_mandatory = old.one_mandatory }
+taken_lawful : (life : Life) (call : Call) → was_closed life ≡ false → HaveOwnNumbers (noted (ledger_of life) call).orders → Heeds life call → Lawful life → Lawful (later life call (Ok Taken))
+taken_lawful life call undone once heeds old =
+    record { once = once; heeded = (old.heeded, λ _. heeds); marked = old.marked; one_mandatory = old.one_mandatory; ends = (old.ends, sym undone) }
 
 -- a session has just opened
 pub begun_life : Lived begun opened [] []
@@ -98,36 +114,47 @@ begun_life =
       agrees = record { same_orders = refl; same_sale = refl; all_sound = All-nil (λ r. sound r ≡ true) };
       same_time = refl;
       same_notices = refl;
-      lawful = record { once = λ i j d before inside. absurd (omega arith); heeded = tt; marked = tt; one_mandatory = omega arith };
+      same_end = refl;
+      upheld = tt;
+      lawful = record { once = λ i j d before inside. absurd (omega arith); heeded = tt; marked = tt; one_mandatory = omega arith; ends = tt };
     }
 
 -- the clock moves, a sale or a quote comes in
-module _ (s : State) (rows : List Row) (notices : List Notice) where
-  pub time_life : (t : ℕ) → KeepsLife (Time t) taken s rows notices (at_time s t) rows notices
+module _ (s : State) (rows : List Row) (notices : List Notice) (undone : s.done ≡ false) where
+  pub time_life : (t : ℕ) → KeepsLife (Time t) (Ok Taken) s rows notices (at_time s t) rows notices
   time_life t = λ life old.
+      let none : was_closed life ≡ false = sym old.same_end ∙ undone in
       record {
         agrees = record { same_orders = old.agrees.same_orders; same_sale = old.agrees.same_sale; all_sound = old.agrees.all_sound };
         same_time = refl;
         same_notices = old.same_notices;
-        lawful = taken_lawful life (Time t) old.lawful.once tt old.lawful;
+        same_end = undone ∙ sym (end_after life (Time t) Taken refl refl none);
+        upheld = upheld_after life (Time t) Taken refl refl none (filled_shares rows) _ old.upheld;
+        lawful = taken_lawful life (Time t) none old.lawful.once tt old.lawful;
       }
 
-  pub sale_life : (p : ℕ) → KeepsLife (Sale p) taken s rows notices (after_sale s p) rows notices
+  pub sale_life : (p : ℕ) → KeepsLife (Sale p) (Ok Taken) s rows notices (after_sale s p) rows notices
   sale_life p = λ life old.
+      let none : was_closed life ≡ false = sym old.same_end ∙ undone in
       record {
         agrees = record { same_orders = old.agrees.same_orders; same_sale = ap (λ (last : Option LastSale). Some (sale_after last p)) old.agrees.same_sale; all_sound = old.agrees.all_sound };
         same_time = old.same_time;
         same_notices = old.same_notices;
-        lawful = taken_lawful life (Sale p) old.lawful.once tt old.lawful;
+        same_end = undone ∙ sym (end_after life (Sale p) Taken refl refl none);
+        upheld = upheld_after life (Sale p) Taken refl refl none (filled_shares rows) _ old.upheld;
+        lawful = taken_lawful life (Sale p) none old.lawful.once tt old.lawful;
       }
 
-  pub quote_life : (q : AQuote) → KeepsLife (Quote q) taken s rows notices (after_quote s q) rows notices
+  pub quote_life : (q : AQuote) → KeepsLife (Quote q) (Ok Taken) s rows notices (after_quote s q) rows notices
   quote_life q = λ life old.
+      let none : was_closed life ≡ false = sym old.same_end ∙ undone in
       record {
         agrees = record { same_orders = old.agrees.same_orders; same_sale = old.agrees.same_sale; all_sound = old.agrees.all_sound };
         same_time = old.same_time;
         same_notices = old.same_notices;
-        lawful = taken_lawful life (Quote q) old.lawful.once tt old.lawful;
+        same_end = undone ∙ sym (end_after life (Quote q) Taken refl refl none);
+        upheld = upheld_after life (Quote q) Taken refl refl none (filled_shares rows) _ old.upheld;
+        lawful = taken_lawful life (Quote q) none old.lawful.once tt old.lawful;
       }
 
 -- an order comes in
@@ -145,14 +172,17 @@ module _ (s : State) (rows : List Row) (notices : List Notice) (t : Ticket) (ful
       let asked = entered s rows full notices t e in
       rw (← old.same_notices) (is_faced-from_or _ _ asked.heeds (late_wants_notice t.kind on s.time (rw (old.same_time) late) asked.lets))
 
-  pub entry_life : KeepsLife (Entry t) taken s rows notices s (rows ++ entered_row t ∷ []) notices
-  entry_life = λ life old.
+  pub entry_life : s.done ≡ false → KeepsLife (Entry t) (Ok Taken) s rows notices s (rows ++ entered_row t ∷ []) notices
+  entry_life undone = λ life old.
+      let none : was_closed life ≡ false = sym old.same_end ∙ undone in
       let asked = entered s rows full notices t e in
       record {
         agrees = entry_ledger (ledger_of life) old.agrees;
         same_time = old.same_time;
         same_notices = old.same_notices;
-        lawful = taken_lawful life (Entry t) (once-push (ledger_of life).orders t (subst (HaveOthers t.number) old.agrees.same_orders (new-number t.number rows old.agrees.all_sound (none-listed _ asked.unlisted))) old.lawful.once) (heeds-entry life old) old.lawful;
+        same_end = undone ∙ sym (end_after life (Entry t) Taken refl refl none);
+        upheld = upheld_after life (Entry t) Taken refl refl none (filled_shares rows) _ old.upheld;
+        lawful = taken_lawful life (Entry t) none (once-push (ledger_of life).orders t (subst (HaveOthers t.number) old.agrees.same_orders (new-number t.number rows old.agrees.all_sound (none-listed _ asked.unlisted))) old.lawful.once) (heeds-entry life old) old.lawful;
       }
 
 -- an order goes off
@@ -165,13 +195,16 @@ module _ (s : State) (rows : List Row) (n i : ℕ) (in_error : Bool) (f : FirstN
         all_sound = all_sound-without rows i old.all_sound;
       }
 
-  pub cancel_life : (notices : List Notice) → KeepsLife (Cancel n in_error) taken s rows notices s (remove rows i) notices
-  cancel_life notices = λ life old.
+  pub cancel_life : s.done ≡ false → (notices : List Notice) → KeepsLife (Cancel n in_error) (Ok Taken) s rows notices s (remove rows i) notices
+  cancel_life undone notices = λ life old.
+      let none : was_closed life ≡ false = sym old.same_end ∙ undone in
       record {
         agrees = cancel_ledger (ledger_of life) old.agrees;
         same_time = old.same_time;
         same_notices = old.same_notices;
-        lawful = taken_lawful life (Cancel n in_error) (subst (λ (orders : List Ticket). HaveOwnNumbers orders → HaveOwnNumbers (without_first n orders)) old.agrees.same_orders (once-without n rows old.agrees.all_sound i f) old.lawful.once) tt old.lawful;
+        same_end = undone ∙ sym (end_after life (Cancel n in_error) Taken refl refl none);
+        upheld = upheld_after life (Cancel n in_error) Taken refl refl none (filled_shares rows) _ old.upheld;
+        lawful = taken_lawful life (Cancel n in_error) none (subst (λ (orders : List Ticket). HaveOwnNumbers orders → HaveOwnNumbers (without_first n orders)) old.agrees.same_orders (once-without n rows old.agrees.all_sound i f) old.lawful.once) tt old.lawful;
       }
 
 -- an order is reduced
@@ -184,13 +217,16 @@ module _ (s : State) (rows : List Row) (n i size : ℕ) (d : Row) (in_error : Bo
         all_sound = All-set (λ r. sound r ≡ true) rows i (resized (get_or rows i d) size) (sound-resized (get_or rows i d) size (f.passes d) fits) old.all_sound;
       }
 
-  pub reduction_life : (notices : List Notice) → KeepsLife (Reduction n size in_error) taken s rows notices s (set rows i (resized (get_or rows i d) size)) notices
-  reduction_life notices = λ life old.
+  pub reduction_life : s.done ≡ false → (notices : List Notice) → KeepsLife (Reduction n size in_error) (Ok Taken) s rows notices s (set rows i (resized (get_or rows i d) size)) notices
+  reduction_life undone notices = λ life old.
+      let none : was_closed life ≡ false = sym old.same_end ∙ undone in
       record {
         agrees = reduction_ledger (ledger_of life) old.agrees;
         same_time = old.same_time;
         same_notices = old.same_notices;
-        lawful = taken_lawful life (Reduction n size in_error) (rw numbers-sized old.lawful.once) tt old.lawful;
+        same_end = undone ∙ sym (end_after life (Reduction n size in_error) Taken refl refl none);
+        upheld = upheld_after life (Reduction n size in_error) Taken refl refl none (filled_shares rows) _ old.upheld;
+        lawful = taken_lawful life (Reduction n size in_error) none (rw numbers-sized old.lawful.once) tt old.lawful;
       }
 
 -- where no notice is mandatory, none is counted
@@ -212,12 +248,12 @@ one-more ns n alone few =
     omega (arith, sum, at-most-one n.mandatory (has_mandatory ns) _ alone (none-counted ns) few)
 
 -- what holds of a published notice: it is no second mandatory one, it is mandatory just from 15:45 on, and the list had a place
-pub record Published (s : State) (notices : List Notice) (full : Bool) (n : Notice) : Type 0 where
+pub record IsPublished (s : State) (notices : List Notice) (full : Bool) (n : Notice) : Type 0 where
   pub alone : not (n.mandatory && has_mandatory notices) ≡ true
   pub marked : n.mandatory ≡ is_late s.time
   pub has_place : full ≡ false
 
-pub published-from : (s : State) (rows : List Row) (notices : List Notice) (full significant : Bool) (n : Notice) → publication_answer s rows notices full significant ≡ Ok n → Published s notices full n
+pub published-from : (s : State) (rows : List Row) (notices : List Notice) (full significant : Bool) (n : Notice) → publication_answer s rows notices full significant ≡ Ok n → IsPublished s notices full n
 published-from s rows notices full significant n e =
     let done = yes-from_ask {T = Notice} (not s.done) Done _ n e in
     let allowed = yes-from_ask {T = Notice} (lets_now s APublication) NotNow _ n done.1 in
@@ -234,18 +270,22 @@ published-from s rows notices full significant n e =
 
 -- a notice is published
 module _ (s : State) (rows : List Row) (notices : List Notice) (full significant : Bool) (n : Notice) (e : publication_answer s rows notices full significant ≡ Ok n) where
-  pub publication_life : KeepsLife (Publication significant) (published n) s rows notices s rows (notices ++ n ∷ [])
-  publication_life = λ life old.
+  pub publication_life : s.done ≡ false → KeepsLife (Publication significant) (Ok (Published n)) s rows notices s rows (notices ++ n ∷ [])
+  publication_life undone = λ life old.
+      let none : was_closed life ≡ false = sym old.same_end ∙ undone in
       let was = published-from s rows notices full significant n e in
       record {
         agrees = old.agrees;
         same_time = old.same_time;
         same_notices = ap (λ (ns : List Notice). ns ++ n ∷ []) old.same_notices;
+        same_end = undone ∙ sym (end_after life (Publication significant) (Published n) refl refl none);
+        upheld = upheld_after life (Publication significant) (Published n) refl refl none (filled_shares rows) _ old.upheld;
         lawful = record {
           once = old.lawful.once;
           heeded = (old.lawful.heeded, λ _. tt);
           marked = (old.lawful.marked, was.marked ∙ ap is_late old.same_time);
           one_mandatory = one-more (notices_of life) n (rw (← old.same_notices) was.alone) old.lawful.one_mandatory;
+          ends = (old.lawful.ends, sym none);
         };
       }
 
@@ -255,13 +295,32 @@ pub notice_is : (s : State) (rows : List Row) (last : LastSale) (amount : ℤ) (
     → record { amount = amount; reference = price; mandatory = late } ≡ notice_of s rows last
 notice_is s rows last amount price late a p m = rw (a, p, m)
 
--- a refused call, which changes nothing, carries every life on
-pub refused_life : (call : Call) (r : Reply) (s : State) (rows : List Row) (notices : List Notice) → is_ok r ≡ false → KeepsLife call (answer_of r) s rows notices s rows notices
-refused_life call (Ok nothing) s rows notices ok = absurd (true≢false ok)
-refused_life call (Err fault) s rows notices ok = λ life old.
+or_false : (b : Bool) → (b || false) ≡ b
+or_false true = refl
+or_false false = refl
+
+-- a refused call, which changes nothing, carries every life on where it is upheld
+pub refused_life : (call : Call) (fault : SessionFault) (s : State) (rows : List Row) (notices : List Notice) → refused_with {T = Outcome} 7 (Err fault) ≡ s.done
+    → ((L : Ledger) → Agrees L s rows → UpheldBy L call (Err fault) (filled_shares rows))
+    → KeepsLife call (Err fault) s rows notices s rows notices
+refused_life call fault s rows notices done upheld = λ life old.
     record {
       agrees = old.agrees;
       same_time = old.same_time;
       same_notices = old.same_notices;
-      lawful = record { once = old.lawful.once; heeded = (old.lawful.heeded, λ yes. absurd (true≢false (sym yes))); marked = old.lawful.marked; one_mandatory = old.lawful.one_mandatory };
+      same_end = old.same_end ∙ sym (or_false (was_closed life));
+      upheld = (old.upheld, upheld (ledger_of life) old.agrees);
+      lawful = record {
+        once = old.lawful.once;
+        heeded = (old.lawful.heeded, λ yes. absurd (true≢false (sym yes)));
+        marked = old.lawful.marked;
+        one_mandatory = old.lawful.one_mandatory;
+        ends = (old.lawful.ends, done ∙ old.same_end);
+      };
     }
+
+-- and so a call other than the close that keeps to its grounds
+pub refused_other : (call : Call) (answer : Answer) (s : State) (rows : List Row) (notices : List Notice) → is_close call ≡ false → is_ok answer ≡ false → Grounds s answer → KeepsLife call answer s rows notices s rows notices
+refused_other call (Ok outcome) s rows notices other refused g = absurd (true≢false refused)
+refused_other call (Err fault) s rows notices other refused g =
+    refused_life call fault s rows notices g.done (refusal_upheld s rows call fault (filled_shares rows) other g)

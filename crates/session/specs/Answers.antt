@@ -1,23 +1,29 @@
 -- What each call answers: the first question answered no, or else that it is accepted. Assumes nothing.
 use Rattle.std.specs.Prelude.{ℕ, Bool, not, ◌&&◌, ◌||◌, List, Option, Ok, Result, nat_le, nat_lt, slice_get}
 use Rattle.std.specs.Option.{option_and_then, option_map}
+use Rattle.list.specs.declared.List.{List as Held}
 use Rattle.order.specs.declared.kind.Row.{Row}
 use Rattle.order.specs.declared.kind.Side.TheVariants.{Buy, Sell}
 use Rattle.order.specs.declared.sale.Quote.{Quote}
+use Rattle.order.specs.declared.sale.Sale.{Sale}
+use Rattle.order.specs.declared.terms.Terms.{Terms}
 use Rattle.order.specs.declared.ticket.Ticket.{Ticket}
 use Rattle.order.specs.Entered.{sound_ticket}
 use Rattle.order.specs.Kinds.{is_price, is_size, is_number}
 use Rattle.order.specs.Sales.{sound_quote}
-use Rattle.book.specs.Entries.{entries}
+use Rattle.book.specs.Answers.{have_room}
+use Rattle.book.specs.Entries.{entries, orders_at}
 use Rattle.book.specs.Listing.{place_of, is_listed}
+use Rattle.book.specs.Volume.{traded, unfillable}
 use Rattle.book.specs.Weight.{weight}
 use Rattle.clock.specs.declared.table.Allowance.{Allowance}
 use Rattle.clock.specs.declared.table.Event.{Event}
 use Rattle.clock.specs.declared.table.Event.TheVariants as event
 use Rattle.clock.specs.Phases.{is_time, is_late, phase_at}
 use Rattle.clock.specs.Table.{allowed_in, lets, wants_notice}
+use Rattle.session.specs.declared.call.Print.{Print}
 use Rattle.session.specs.declared.fault.SessionFault.{SessionFault}
-use Rattle.session.specs.declared.fault.SessionFault.TheVariants.{Done, OutOfLimits, Earlier, Unlisted, NotNow, NoNotice, AlreadyListed, OrdersFull, NotSmaller, NoSale, AlreadyMandatory, Insignificant, NoticesFull}
+use Rattle.session.specs.declared.fault.SessionFault.TheVariants.{Done, OutOfLimits, Earlier, Unlisted, NotNow, NoNotice, AlreadyListed, OrdersFull, NotSmaller, NoSale, AlreadyMandatory, Insignificant, NoticesFull, NoPlace, Unfillable}
 use Rattle.session.specs.declared.notice.Notice.{Notice}
 use Rattle.session.specs.declared.orders.Found.{Found}
 use Rattle.session.specs.Notices.{notice_of, is_faced, has_mandatory, is_notable}
@@ -36,6 +42,10 @@ lets_now s event = lets (allowance_of s event)
 -- the first order of a number with its place, or none
 abbrev pub listed_at : ℕ → List Row → Option Found
 listed_at n rows = option_and_then (λ place. option_map (λ row. record { place = place; row = row }) (slice_get rows place)) (place_of n rows)
+
+-- a price with the last sale
+abbrev pub at_price : ℕ → Sale → Terms
+at_price p last = record { price = p; sale = last }
 
 -- the clock moves to the time t
 abbrev pub time_answer : State → ℕ → Reply
@@ -107,4 +117,15 @@ abbrev pub totals_answer : State → List Row → ℕ → Result (ℕ × ℕ) Se
 totals_answer s rows p =
     ask (is_price p) OutOfLimits (
     ask_for s.sale NoSale (λ last.
-    Ok (weight (entries (record { price = p; sale = last }) rows) Buy, weight (entries (record { price = p; sale = last }) rows) Sell)))
+    Ok (weight (entries (at_price p last) rows) Buy, weight (entries (at_price p last) rows) Sell)))
+
+-- the orders of a list are closed at the price p, with two work lists; the print is the answer
+abbrev pub close_answer : State → Held Row → List ℕ → List ℕ → ℕ → Result Print SessionFault
+close_answer s orders claims gifts p =
+    ask (not s.done) Done (
+    ask (is_price p) OutOfLimits (
+    ask (lets_now s event.Close) NotNow (
+    ask_for s.sale NoSale (λ last.
+    ask (have_room orders claims gifts) NoPlace (
+    ask (not (unfillable (orders_at orders (at_price p last)))) Unfillable (
+    Ok (record { price = p; volume = traded (orders_at orders (at_price p last)) })))))))

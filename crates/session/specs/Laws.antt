@@ -1,17 +1,20 @@
 -- What holds of each life that a session had. Assumes nothing.
-use Rattle.std.specs.Prelude.{◌≡◌, ◌≢◌, ℕ, ◌≤◌, true, List, map, AllPairs, count_by}
+use Rattle.std.specs.Prelude.{◌≡◌, ◌≢◌, ℕ, ◌≤◌, true, List, map, AllPairs, count_by, Ok, Err, is_ok}
 use Rattle.order.specs.declared.kind.Row.{Row}
 use Rattle.order.specs.declared.ticket.Ticket.{Ticket}
 use Rattle.order.specs.Kinds.{on_close}
 use Rattle.clock.specs.Phases.{is_late}
 use Rattle.session.specs.declared.call.Call.{Call}
 use Rattle.session.specs.declared.call.Call.TheVariants.{Time, Sale, Quote, Entry, Cancel, Reduction, Publication, Close}
+use Rattle.session.specs.declared.call.Outcome.TheVariants.{Taken, Published, Printed}
 use Rattle.session.specs.declared.notice.Notice.{Notice}
 use Rattle.session.specs.Agreement.{Agrees}
-use Rattle.session.specs.Lives.{Life, begun, later, ledger_of, time_of, notices_of}
+use Rattle.session.specs.Lives.{Life, begun, later, ledger_of, time_of, notices_of, was_closed}
 use Rattle.session.specs.Notices.{is_faced}
-use Rattle.session.specs.Replies.{Answer, refused, taken, published, was_accepted}
+use Rattle.session.specs.Questions.{refused_with}
+use Rattle.session.specs.Replies.{Answer}
 use Rattle.session.specs.States.{State}
+use Rattle.session.specs.Upheld.{UpheldBy, filled_shares}
 
 -- the numbers of orders
 abbrev pub numbers : List Ticket → List ℕ
@@ -39,14 +42,25 @@ Heeds life (Close p) = Unit {0}
 -- each accepted call of a life heeded the notices
 abbrev pub AllHeed : Life → Type 0
 AllHeed begun = Unit {0}
-AllHeed (later life call answer) = AllHeed life × (was_accepted answer ≡ true → Heeds life call)
+AllHeed (later life call answer) = AllHeed life × (is_ok answer ≡ true → Heeds life call)
 
 -- each notice of a life was mandatory just where it was published at 15:45 or later
 abbrev pub AllMarked : Life → Type 0
 AllMarked begun = Unit {0}
-AllMarked (later life call (refused fault)) = AllMarked life
-AllMarked (later life call taken) = AllMarked life
-AllMarked (later life call (published n)) = AllMarked life × (n.mandatory ≡ is_late (time_of life))
+AllMarked (later life call (Ok Taken)) = AllMarked life
+AllMarked (later life call (Ok (Published n))) = AllMarked life × (n.mandatory ≡ is_late (time_of life))
+AllMarked (later life call (Ok (Printed print))) = AllMarked life
+AllMarked (later life call (Err fault)) = AllMarked life
+
+-- each call of a life was refused as done (7) just where a close before it was completed
+abbrev pub AllEnd : Life → Type 0
+AllEnd begun = Unit {0}
+AllEnd (later life call answer) = AllEnd life × (refused_with 7 answer ≡ was_closed life)
+
+-- each answer of a life was upheld by the ledger of the calls before it, where the orders have these shares
+abbrev pub AllUpheld : Life → List ℕ → Type 0
+AllUpheld begun shares = Unit {0}
+AllUpheld (later life call answer) shares = AllUpheld life shares × UpheldBy (ledger_of life) call answer shares
 
 -- the law of lives
 pub record Lawful (life : Life) : Type 0 where
@@ -58,6 +72,8 @@ pub record Lawful (life : Life) : Type 0 where
   pub marked : AllMarked life
   -- at most one mandatory notice was ever published
   pub one_mandatory : mandatory_count (notices_of life) ≤ 1
+  -- a call was refused as done just where a close before it was completed
+  pub ends : AllEnd life
 
 -- a session, the rows and the notices in its lists are those after a life, which is lawful
 pub record Lived (life : Life) (s : State) (rows : List Row) (notices : List Notice) : Type 0 where
@@ -67,6 +83,10 @@ pub record Lived (life : Life) (s : State) (rows : List Row) (notices : List Not
   pub same_time : s.time ≡ time_of life
   -- the notice list holds its notices, in order
   pub same_notices : notices ≡ notices_of life
+  -- the session is done just where a close was completed
+  pub same_end : s.done ≡ was_closed life
+  -- each answer was upheld, and the orders have the shares that a completed close gave them
+  pub upheld : AllUpheld life (filled_shares rows)
   -- the law of lives holds of it
   pub lawful : Lawful life
 

@@ -7,6 +7,8 @@ pub mod Changes
 pub mod Ledgers
 pub mod Agreement
 pub mod Lives
+pub mod Upheld
 pub mod Laws
+pub mod Moments
 pub mod Runs
 pub mod Texts

@@ -1,10 +1,11 @@
 -- The lives of sessions: their calls with the answers, and what an outsider reads from them. Assumes nothing.
-use Rattle.std.specs.Prelude.{ℕ, if◌then◌else◌, List, [], ◌∷◌, ◌++◌}
+use Rattle.std.specs.Prelude.{ℕ, Bool, false, ◌||◌, if◌then◌else◌, List, [], ◌∷◌, ◌++◌, Ok, Err, is_ok}
 use Rattle.session.specs.declared.call.Call.{Call}
 use Rattle.session.specs.declared.call.Call.TheVariants.{Time, Sale, Quote, Entry, Cancel, Reduction, Publication, Close}
+use Rattle.session.specs.declared.call.Outcome.TheVariants.{Taken, Published, Printed}
 use Rattle.session.specs.declared.notice.Notice.{Notice}
 use Rattle.session.specs.Ledgers.{Ledger, empty, fed}
-use Rattle.session.specs.Replies.{Answer, refused, taken, published, was_accepted}
+use Rattle.session.specs.Replies.{Answer, is_print}
 
 -- a life: it has just begun, or a call was answered after an earlier life. These are calls with any answers; `Led` says which of them a session can have
 pub data Life : Type 0 where
@@ -14,7 +15,7 @@ pub data Life : Type 0 where
 -- the ledger of a life
 abbrev pub ledger_of : Life → Ledger
 ledger_of begun = empty
-ledger_of (later life call answer) = fed (ledger_of life) call (was_accepted answer)
+ledger_of (later life call answer) = fed (ledger_of life) call (is_ok answer)
 
 -- the time after a call that was accepted
 abbrev pub time_after : ℕ → Call → ℕ
@@ -30,11 +31,17 @@ time_after now (Close p) = now
 -- the time of a life: the last one that was accepted, or 0
 abbrev pub time_of : Life → ℕ
 time_of begun = 0
-time_of (later life call answer) = (if was_accepted answer then time_after (time_of life) call else time_of life)
+time_of (later life call answer) = (if is_ok answer then time_after (time_of life) call else time_of life)
 
 -- the notices of a life, in order
 abbrev pub notices_of : Life → List Notice
 notices_of begun = []
-notices_of (later life call (refused fault)) = notices_of life
-notices_of (later life call taken) = notices_of life
-notices_of (later life call (published n)) = notices_of life ++ n ∷ []
+notices_of (later life call (Ok Taken)) = notices_of life
+notices_of (later life call (Ok (Published n))) = notices_of life ++ n ∷ []
+notices_of (later life call (Ok (Printed print))) = notices_of life
+notices_of (later life call (Err fault)) = notices_of life
+
+-- whether a close of a life was completed: it was answered with a print
+abbrev pub was_closed : Life → Bool
+was_closed begun = false
+was_closed (later life call answer) = was_closed life || is_print answer

@@ -1,5 +1,8 @@
--- The forms of answers: as the caller has them, and as an outsider hears them. Assumes nothing.
+-- The forms of answers: of one call, and of any. Assumes nothing.
 use Rattle.std.specs.Prelude.{Bool, true, false, Ok, Err, Result}
+use Rattle.session.specs.declared.call.Outcome.{Outcome}
+use Rattle.session.specs.declared.call.Outcome.TheVariants.{Taken, Published, Printed}
+use Rattle.session.specs.declared.call.Print.{Print}
 use Rattle.session.specs.declared.fault.SessionFault.{SessionFault}
 use Rattle.session.specs.declared.notice.Notice.{Notice}
 
@@ -11,24 +14,28 @@ Reply = Result (Unit {0}) SessionFault
 abbrev pub accepted : Reply
 accepted = Ok tt
 
--- what an outsider hears of a call: it was refused, it was taken, or it was taken and a notice published
-pub data Answer : Type 0 where
-  refused : SessionFault → Answer
-  taken : Answer
-  published : Notice → Answer
+-- the answer of any call: refused, or accepted and perhaps with something to say
+abbrev pub Answer : Type 0
+Answer = Result Outcome SessionFault
 
 -- the answer of a call that has nothing more to say
 abbrev pub answer_of : Reply → Answer
-answer_of (Ok nothing) = taken
-answer_of (Err fault) = refused fault
+answer_of (Ok nothing) = Ok Taken
+answer_of (Err fault) = Err fault
 
 -- the answer of a publication
 abbrev pub notice_answer_of : Result Notice SessionFault → Answer
-notice_answer_of (Ok n) = published n
-notice_answer_of (Err fault) = refused fault
+notice_answer_of (Ok n) = Ok (Published n)
+notice_answer_of (Err fault) = Err fault
 
--- whether a call was accepted
-abbrev pub was_accepted : Answer → Bool
-was_accepted (refused fault) = false
-was_accepted taken = true
-was_accepted (published n) = true
+-- the answer of a close
+abbrev pub print_answer_of : Result Print SessionFault → Answer
+print_answer_of (Ok print) = Ok (Printed print)
+print_answer_of (Err fault) = Err fault
+
+-- whether a call was answered with a print
+abbrev pub is_print : Answer → Bool
+is_print (Ok Taken) = false
+is_print (Ok (Published n)) = false
+is_print (Ok (Printed print)) = true
+is_print (Err fault) = false

@@ -2,6 +2,7 @@
 ghost use Rattle.std.specs.Prelude.{◌≡◌, Ok};
 ghost use Rattle.session.specs.Questions.{question_of, ask};
 
+use book::FillFault;
 use std::error::Error;
 use std::fmt;
 
@@ -34,6 +35,12 @@ pub enum SessionFault {
     Insignificant = 18,
     /// Has the notice list a place?
     NoticesFull = 19,
+    /// Has each work list a place for each row of the list?
+    NoPlace = 20,
+    /// Does an assignment exist?
+    Unfillable = 21,
+    /// Are claims and gifts equally long?
+    Unequal = 22,
 }
 
 impl SessionFault {
@@ -71,11 +78,30 @@ impl fmt::Display for SessionFault {
                 "the imbalance is 0, or too small for a mandatory notice"
             }
             SessionFault::NoticesFull => "the notice list has no place left",
+            SessionFault::NoPlace => return fmt::Display::fmt(&FillFault::NoPlace, f),
+            SessionFault::Unfillable => return fmt::Display::fmt(&FillFault::Unfillable, f),
+            SessionFault::Unequal => return fmt::Display::fmt(&FillFault::Unequal, f),
         })
     }
 }
 
 impl Error for SessionFault {}
+
+// By hand: a clause names the fault, and a derived conversion has no contract.
+impl From<FillFault> for SessionFault {
+    ghost use Rattle.book.specs.Answers.{question_of as fill_question_of};
+    ghost use Rattle.session.specs.Questions.{of_fill};
+
+    ghost from_gives = { λ fault r. (r ≡ of_fill fault) × (question_of r ≡ fill_question_of fault) };
+
+    fn from(fault: FillFault) -> SessionFault {
+        match fault {
+            FillFault::NoPlace => SessionFault::NoPlace,
+            FillFault::Unfillable => SessionFault::Unfillable,
+            FillFault::Unequal => SessionFault::Unequal,
+        }
+    }
+}
 
 /// A question: refuses with `fault` when the answer is no.
 pub(crate) fn ask(answer: bool, fault: SessionFault) -> Result<(), SessionFault>

@@ -1,6 +1,7 @@
-// One security's session up to the close: its clock, its calls, and the notices that it publishes.
+// One security's session: its clock, its calls, the notices that it publishes, and its close.
 #![tactic(auto)]
 
+mod apply;
 mod call;
 mod fault;
 mod notice;
@@ -9,7 +10,7 @@ mod publication;
 mod session;
 mod totals;
 
-pub use call::Call;
+pub use call::{Call, Outcome, Print};
 pub use fault::SessionFault;
 pub use notice::Notice;
 pub use session::Session;

@@ -1,4 +1,4 @@
-// What a session keeps, and the calls that change it: the time, a sale and a quote.
+// What a session keeps, how it opens, and the calls that bring the time, a sale and a quote.
 ghost use Rattle.std.specs.Prelude.{◌≡◌, is_ok, List as Elements};
 ghost use Rattle.list.specs.Held.{kept, emptied};
 ghost use Rattle.order.specs.declared.kind.Row.{Row};
@@ -16,6 +16,7 @@ ghost use Rattle.session.specs.Lives.{begun};
 ghost use Rattle.session.specs.Replies.{accepted, answer_of};
 ghost use Rattle.session.specs.Runs.{AllLived};
 
+mod close;
 mod readers;
 
 use crate::fault::{SessionFault, ask};

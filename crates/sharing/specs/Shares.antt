@@ -1,5 +1,5 @@
 -- An amount shared among claims, and what every sharing method owes. Assumes nothing.
-use Rattle.std.specs.Prelude.{◌≡◌, ℕ, ◌+◌, ◌%◌, ◌<◌, ◌≤◌, Bool, if◌then◌else◌, ◌⊎◌, List, [], ◌∷◌, length, Ok, Err, Result, ◌==◌, ◌≢◌, slice_index, codes}
+use Rattle.std.specs.Prelude.{◌≡◌, ℕ, ◌+◌, ◌%◌, ◌<◌, ◌≤◌, min, Bool, if◌then◌else◌, ◌⊎◌, List, [], ◌∷◌, length, Ok, Err, Result, ◌==◌, ◌≢◌, slice_index, codes}
 use Rattle.sharing.specs.declared.Unequal.{Unequal}
 
 -- all claims, or all gifts, together
@@ -38,3 +38,12 @@ answer claims gifts = (if equally_long claims gifts then Ok tt else Err unequal)
 -- what the gifts hold then: the shares, and after a refusal what they held
 abbrev pub given : List ℕ → List ℕ → List ℕ → List ℕ
 given claims gifts shares = (if equally_long claims gifts then shares else gifts)
+
+-- a meaning divides every amount among any claims
+pub record Divides (meaning : ℕ → List ℕ → List ℕ) : Type 0 where
+  -- there are as many gifts as claims
+  pub paired : (amount : ℕ) (claims : List ℕ) → length (meaning amount claims) ≡ length claims
+  -- no gift exceeds its claim
+  pub within : (amount : ℕ) (claims : List ℕ) → Within claims (meaning amount claims)
+  -- the gifts add up to the lesser of the amount and all claims
+  pub spends : (amount : ℕ) (claims : List ℕ) → total (meaning amount claims) ≡ min amount (total claims)

@@ -17,4 +17,4 @@ returns-clause-life c =
     let found = c.in_ok-found.found in
     let order = is_found c.args.number (kept c.args.orders.now) found (search rules) in
     let rows : kept c.remove.new.self ≡ remove (kept c.args.orders.now) found.place = search rules in
-    rw rows (cancel_life c.args.self.now (kept c.args.orders.now) c.args.number found.place c.args.in_error order.first)
+    rw rows (cancel_life c.args.self.now (kept c.args.orders.now) c.args.number found.place c.args.in_error order.first (search rules))
