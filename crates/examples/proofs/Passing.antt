@@ -1,7 +1,8 @@
 -- A test of each example, and that an example that passes holds. Assumes nothing.
-use Rattle.std.proofs.Common.{◌≡◌, ℕ, ◌≤◌, Bool, true, false, not, ◌&&◌, eqb, List, [], ◌∷◌, Some, None, Option, Ok, Err, Result, sym, refl, ap, true≢false, arith}
+use Rattle.std.proofs.Common.{◌≡◌, ℕ, ◌≤◌, Bool, true, false, not, ◌&&◌, eqb, List, [], ◌∷◌, Some, None, Option, Ok, Err, Result, sym, refl, ap, subst, true≢false, arith}
 use Rattle.std.specs.Bool.{beq}
 use Rattle.std.specs.Cmp.{booleans_Decides}
+use Rattle.std.specs.Cmp.Lexicographic.{pointwise}
 use Rattle.std.specs.Option.{option_eq}
 use Rattle.std.specs.Ordering.{int_eq}
 use Rattle.std.specs.Result.{result_eq}
@@ -10,6 +11,7 @@ use Rattle.std.proofs.lemmas.Bool.{and_parts, not-true, eqb-true}
 use Rattle.std.proofs.lemmas.Bool.Decides.{nat_tests, Decides-int_eq}
 use Rattle.std.proofs.lemmas.Slice.Eq.{bytes_eq-Decides as list_eq-Decides}
 use denote.Enum.Bare.{sameb, same_true}
+use Rattle.list.specs.Held.{kept}
 use Rattle.order.specs.contracts.class.Class.{the_type as the_class}
 use Rattle.order.specs.contracts.limit.Standing.{the_type as the_standing}
 use Rattle.order.specs.contracts.sale.Tick.{the_type as the_tick}
@@ -21,7 +23,10 @@ use Rattle.order.specs.Classes.{class_of}
 use Rattle.order.specs.Limits.{effective, standing_by, standing_of}
 use Rattle.order.specs.Sales.{reference, tick_after}
 use Rattle.sharing.specs.Arrival.{arrival}
+use Rattle.sharing.specs.ArrivalLaws.{arrival_paired, arrival_within, arrival_spends}
+use Rattle.sharing.specs.Shares.{Divides}
 use Rattle.sharing.specs.Turns.{turns}
+use Rattle.sharing.specs.TurnsLaws.{turns_paired, turns_within, turns_spends}
 use Rattle.book.specs.declared.entry.Entry.{Entry}
 use Rattle.book.specs.Entries.{entries}
 use Rattle.book.specs.Imbalance.{amount_of}
@@ -31,10 +36,20 @@ use Rattle.clock.specs.contracts.table.Allowance.{the_type as the_allowance}
 use Rattle.clock.specs.Phases.{phase_at}
 use Rattle.clock.specs.Table.{allowed_in}
 use Rattle.session.specs.contracts.fault.SessionFault.{the_type as the_fault}
+use Rattle.session.specs.declared.call.Call.{Call}
+use Rattle.session.specs.declared.call.Outcome.{Outcome}
+use Rattle.session.specs.declared.call.Outcome.TheVariants.{Taken, Published, Printed}
+use Rattle.session.specs.declared.call.Print.{Print}
 use Rattle.session.specs.declared.fault.SessionFault.{SessionFault}
 use Rattle.session.specs.declared.notice.Notice.{Notice}
-use Rattle.session.specs.Answers.{entry_answer, publication_answer}
-use Rattle.examples.specs.Examples.{Example, has_reference, has_tick, has_standing, is_always_out, has_class, trade, are_unfillable, are_filled, have_imbalance, has_allowance, has_entry, has_publication, shared_by_arrival, shared_by_turns, fills_by_arrival, Holds, AllHold}
+use Rattle.session.specs.Answers.{entry_answer, publication_answer, close_answer}
+use Rattle.session.specs.Moments.{Opened}
+use Rattle.session.specs.Replies.{Answer}
+use Rattle.session.specs.Upheld.{filled_shares}
+use Rattle.life.specs.Stages.{answers_to}
+use Rattle.life.specs.Whole.{WholeLife}
+use Rattle.life.proofs.Living.{whole_life}
+use Rattle.examples.specs.Examples.{Example, has_reference, has_tick, has_standing, is_always_out, has_class, trade, are_unfillable, are_filled, have_imbalance, has_allowance, has_entry, has_publication, has_close, lives_by_arrival, lives_by_turns, shared_by_arrival, shared_by_turns, fills_by_arrival, holding_all, work_list, on_six_places, calls_of, answers_of, end_of, Lives, Holds, AllHold}
 
 -- a buy that is held to 0, which no price meets
 abbrev held_to_nothing : Side → Option ℕ → Bool
@@ -58,6 +73,25 @@ nothing_eq a b = true
 abbrev answer_eq : {T : Type 0} → (T → T → Bool) → Result T SessionFault → Result T SessionFault → Bool
 answer_eq same a b = result_eq same (sameb the_fault) a b
 
+-- two prints are the same
+abbrev print_eq : Print → Print → Bool
+print_eq a b = eqb a.price b.price && eqb a.volume b.volume
+
+-- two outcomes of accepted calls are the same
+abbrev outcome_eq : Outcome → Outcome → Bool
+outcome_eq Taken Taken = true
+outcome_eq (Published m) (Published n) = notice_eq m n
+outcome_eq (Printed a) (Printed b) = print_eq a b
+outcome_eq a b = false
+
+-- two lists of answers are the same
+abbrev answers_eq : List Answer → List Answer → Bool
+answers_eq = pointwise (answer_eq outcome_eq)
+
+-- each call is answered so, and the orders then have these filled shares
+abbrev lives_so : (ℕ → List ℕ → List ℕ) → List (Call × Answer) → List ℕ → Bool
+lives_so meaning life shares = answers_eq (answers_to meaning on_six_places (calls_of life)) (answers_of life) && list_eq (filled_shares (kept (end_of meaning life).orders)) shares
+
 -- the test of an example
 abbrev passes : Example → Bool
 passes (has_reference last quote p) = eqb (reference last quote) p
@@ -72,6 +106,9 @@ passes (have_imbalance rows terms n) = int_eq (amount_of rows terms) n
 passes (has_allowance time event allowance) = sameb the_allowance (allowed_in (phase_at time) event) allowance
 passes (has_entry s rows notices ticket reply) = answer_eq nothing_eq (entry_answer s rows false notices ticket) reply
 passes (has_publication s rows notices significant answer) = answer_eq notice_eq (publication_answer s rows notices false significant) answer
+passes (has_close s rows places p answer) = answer_eq print_eq (close_answer s (holding_all rows) (work_list places) (work_list places) p) answer
+passes (lives_by_arrival life shares) = lives_so arrival life shares
+passes (lives_by_turns life shares) = lives_so turns life shares
 passes (shared_by_arrival amount claims gifts) = list_eq (arrival amount claims) gifts
 passes (shared_by_turns amount claims gifts) = list_eq (turns amount claims) gifts
 
@@ -109,6 +146,53 @@ same_answer same alike (Ok m) (Err g) e = absurd (true≢false (sym e))
 same_answer same alike (Err f) (Ok n) e = absurd (true≢false (sym e))
 same_answer same alike (Err f) (Err g) e = ap Err (same_true the_fault tt f g e)
 
+same_print : (a b : Print) → print_eq a b ≡ true → a ≡ b
+same_print a b t =
+    let both = and_parts _ _ t in
+    let same_price = eqb-true a.price b.price both.0 in
+    let same_volume = eqb-true a.volume b.volume both.1 in
+    λ i. record { price = same_price i; volume = same_volume i }
+
+same_outcome : (a b : Outcome) → outcome_eq a b ≡ true → a ≡ b
+same_outcome Taken Taken e = refl
+same_outcome (Published m) (Published n) e = ap Published (same_notice m n e)
+same_outcome (Printed a) (Printed b) e = ap Printed (same_print a b e)
+same_outcome a b e = absurd (true≢false (sym e))
+
+same_answers : (xs ys : List Answer) → answers_eq xs ys ≡ true → xs ≡ ys
+same_answers [] [] e = refl
+same_answers [] (y ∷ ys) e = absurd (true≢false (sym e))
+same_answers (x ∷ xs) [] e = absurd (true≢false (sym e))
+same_answers (x ∷ xs) (y ∷ ys) e =
+    let both = and_parts _ _ e in
+    let first = same_answer outcome_eq same_outcome x y both.0 in
+    let rest = same_answers xs ys both.1 in
+    λ i. first i ∷ rest i
+
+-- sharing by arrival divides as every method must
+arrival_divides : Divides arrival
+arrival_divides = record { paired = arrival_paired; within = arrival_within; spends = arrival_spends }
+
+-- and so does sharing by turns
+turns_divides : Divides turns
+turns_divides = record { paired = turns_paired; within = turns_within; spends = turns_spends }
+
+-- a session has just opened on six places
+just_opened : Opened on_six_places.moment
+just_opened = record { at_start = refl; no_orders = refl; no_notices = refl }
+
+lives_so_is : (meaning : ℕ → List ℕ → List ℕ) → Divides meaning → (life : List (Call × Answer)) (shares : List ℕ) → lives_so meaning life shares ≡ true → Lives meaning life shares
+lives_so_is meaning divides life shares t =
+    let both = and_parts _ _ t in
+    let end = end_of meaning life in
+    let answered = same_answers _ (answers_of life) both.0 in
+    let whole = whole_life meaning divides on_six_places just_opened (calls_of life) in
+    record {
+      answered = answered;
+      filled = (list_eq-Decides _ shares).0 both.1;
+      whole = subst (λ (answers : List Answer). WholeLife (calls_of life) answers end.state (kept end.orders) (kept end.notices)) answered whole;
+    }
+
 trades_so_is : (es : List Entry) (v : ℕ) → trades_so es v ≡ true → (unfillable es ≡ false) × (traded es ≡ v)
 trades_so_is es v t = let both = and_parts _ _ t in (not-true _ both.0, eqb-true _ v both.1)
 
@@ -129,6 +213,9 @@ holds (have_imbalance rows terms n) t = (Decides-int_eq _ n).0 t
 holds (has_allowance time event allowance) t = same_true the_allowance tt _ allowance t
 holds (has_entry s rows notices ticket reply) t = same_answer nothing_eq same_nothing _ reply t
 holds (has_publication s rows notices significant answer) t = same_answer notice_eq same_notice _ answer t
+holds (has_close s rows places p answer) t = same_answer print_eq same_print _ answer t
+holds (lives_by_arrival life shares) t = lives_so_is arrival arrival_divides life shares t
+holds (lives_by_turns life shares) t = lives_so_is turns turns_divides life shares t
 holds (shared_by_arrival amount claims gifts) t = (list_eq-Decides _ gifts).0 t
 holds (shared_by_turns amount claims gifts) t = (list_eq-Decides _ gifts).0 t
 

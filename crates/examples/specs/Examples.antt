@@ -1,7 +1,11 @@
 -- Worked examples of the rule, and what it is for one to hold. Assumes nothing.
-use Rattle.std.specs.Prelude.{◌≡◌, ℕ, ◌≤◌, Bool, false, List, [], ◌∷◌, ℤ, Option, Result}
+use Rattle.std.specs.Prelude.{◌≡◌, ℕ, ◌≤◌, Bool, false, List, [], ◌∷◌, map, length, replicate, ℤ, pos, Option, Result}
+use Rattle.list.specs.declared.List.{List as Held}
+use Rattle.list.specs.Held.{kept}
 use Rattle.order.specs.declared.class.Class.{Class}
+use Rattle.order.specs.declared.kind.Kind.TheVariants.{Crowd}
 use Rattle.order.specs.declared.kind.Row.{Row}
+use Rattle.order.specs.declared.kind.Side.TheVariants.{Buy}
 use Rattle.order.specs.declared.limit.Standing.{Standing}
 use Rattle.order.specs.declared.limit.Standing.TheVariants.{Out}
 use Rattle.order.specs.declared.sale.Tick.{Tick}
@@ -10,6 +14,7 @@ use Rattle.order.specs.declared.sale.Quote.{Quote}
 use Rattle.order.specs.declared.terms.Terms.{Terms}
 use Rattle.order.specs.declared.ticket.Ticket.{Ticket}
 use Rattle.order.specs.Classes.{class_of}
+use Rattle.order.specs.Entered.{unfilled_row}
 use Rattle.order.specs.Limits.{standing_of}
 use Rattle.order.specs.Sales.{reference, tick_after}
 use Rattle.sharing.specs.Arrival.{arrival}
@@ -24,11 +29,17 @@ use Rattle.clock.specs.declared.table.Allowance.{Allowance}
 use Rattle.clock.specs.declared.table.Event.{Event}
 use Rattle.clock.specs.Phases.{phase_at}
 use Rattle.clock.specs.Table.{allowed_in}
+use Rattle.session.specs.declared.call.Call.{Call}
+use Rattle.session.specs.declared.call.Print.{Print}
 use Rattle.session.specs.declared.fault.SessionFault.{SessionFault}
 use Rattle.session.specs.declared.notice.Notice.{Notice}
-use Rattle.session.specs.Answers.{entry_answer, publication_answer}
-use Rattle.session.specs.Replies.{Reply}
+use Rattle.session.specs.Answers.{entry_answer, publication_answer, close_answer}
+use Rattle.session.specs.Moments.{Moment}
+use Rattle.session.specs.Replies.{Reply, Answer}
 use Rattle.session.specs.States.{State}
+use Rattle.session.specs.Upheld.{filled_shares}
+use Rattle.life.specs.Stages.{Stage, at_opening, after_all, answers_to}
+use Rattle.life.specs.Whole.{WholeLife}
 
 -- a worked example: one sentence of the rule, with numbers
 pub data Example : Type 0 where
@@ -56,6 +67,13 @@ pub data Example : Type 0 where
   has_entry : State → List Row → List Notice → Ticket → Reply → Example
   -- a session with these rows and notices, and a place left for a notice, answers a publication so, flagged as significant or not
   has_publication : State → List Row → List Notice → Bool → Result Notice SessionFault → Example
+  -- a session with these rows, and two work lists of so many places, answers a close at a price so
+  has_close : State → List Row → ℕ → ℕ → Result Print SessionFault → Example
+  -- a session that opens on lists and work lists of six places and shares its close by arrival answers each of these calls so, and its
+  -- orders then have these filled shares
+  lives_by_arrival : List (Call × Answer) → List ℕ → Example
+  -- one that shares its close by turns does so
+  lives_by_turns : List (Call × Answer) → List ℕ → Example
   -- an amount is shared so among claims by arrival
   shared_by_arrival : ℕ → List ℕ → List ℕ → Example
   -- it is shared so among them by turns
@@ -64,6 +82,47 @@ pub data Example : Type 0 where
 -- what each order gets, shared by arrival
 abbrev pub fills_by_arrival : List Entry → List ℕ
 fills_by_arrival es = fills_of es (gifts_of arrival es)
+
+-- a list that holds these elements and has no place left; where its memory lies does not matter
+abbrev pub holding_all : {T : Type 0} → List T → Held T
+holding_all xs = record { places = record { ref_ptr = (0, 0); ghost_name = 0; now = xs }; count = length xs }
+
+-- a work list of so many places
+abbrev pub work_list : ℕ → List ℕ
+work_list n = replicate n 0
+
+-- the row in a place that holds no element; any row would do
+abbrev any_row : Row
+any_row = unfilled_row 0 Crowd Buy false 0 0
+
+-- the notice in such a place; any notice would do
+abbrev any_notice : Notice
+any_notice = record { amount = pos 0; reference = 0; mandatory = false }
+
+-- a session has just opened on lists and work lists of six places
+abbrev pub on_six_places : Stage
+on_six_places = at_opening (holding_all (replicate 6 any_row)) (holding_all (replicate 6 any_notice)) (work_list 6) (work_list 6)
+
+-- the calls of such a session, without their answers
+abbrev pub calls_of : List (Call × Answer) → List Call
+calls_of life = map (λ each. each.0) life
+
+-- the answers, without the calls
+abbrev pub answers_of : List (Call × Answer) → List Answer
+answers_of life = map (λ each. each.1) life
+
+-- what stands after the calls, where a close is shared by a method of this meaning
+abbrev pub end_of : (ℕ → List ℕ → List ℕ) → List (Call × Answer) → Moment
+end_of meaning life = (after_all meaning on_six_places (calls_of life)).moment
+
+-- a session lives so, where a close is shared by a method of this meaning
+pub record Lives (meaning : ℕ → List ℕ → List ℕ) (life : List (Call × Answer)) (shares : List ℕ) : Type 0 where
+  -- each call is answered so
+  pub answered : answers_to meaning on_six_places (calls_of life) ≡ answers_of life
+  -- the orders then have these filled shares
+  pub filled : filled_shares (kept (end_of meaning life).orders) ≡ shares
+  -- the calls with these answers are a whole life
+  pub whole : WholeLife (calls_of life) (answers_of life) (end_of meaning life).state (kept (end_of meaning life).orders) (kept (end_of meaning life).notices)
 
 -- an example holds: what it says is so by the definitions of the rule
 abbrev pub Holds : Example → Type 0
@@ -79,6 +138,9 @@ Holds (have_imbalance rows terms n) = amount_of rows terms ≡ n
 Holds (has_allowance time event allowance) = allowed_in (phase_at time) event ≡ allowance
 Holds (has_entry s rows notices ticket reply) = entry_answer s rows false notices ticket ≡ reply
 Holds (has_publication s rows notices significant answer) = publication_answer s rows notices false significant ≡ answer
+Holds (has_close s rows places p answer) = close_answer s (holding_all rows) (work_list places) (work_list places) p ≡ answer
+Holds (lives_by_arrival life shares) = Lives arrival life shares
+Holds (lives_by_turns life shares) = Lives turns life shares
 Holds (shared_by_arrival amount claims gifts) = arrival amount claims ≡ gifts
 Holds (shared_by_turns amount claims gifts) = turns amount claims ≡ gifts
 

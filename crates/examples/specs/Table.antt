@@ -15,11 +15,16 @@ use Rattle.order.specs.Entered.{unfilled_row, ticket_of}
 use Rattle.order.specs.Kinds.{facing}
 use Rattle.clock.specs.declared.table.Allowance.TheVariants.{Yes, AgainstNotice, No}
 use Rattle.clock.specs.declared.table.Event.TheVariants as event
-use Rattle.session.specs.declared.fault.SessionFault.TheVariants.{OutOfLimits, NotNow, NoNotice, AlreadyListed, NoSale, AlreadyMandatory, Insignificant}
+use Rattle.session.specs.declared.call.Call.{Call}
+use Rattle.session.specs.declared.call.Call.TheVariants as call
+use Rattle.session.specs.declared.call.Outcome.TheVariants.{Taken, Published, Printed}
+use Rattle.session.specs.declared.call.Print.{Print}
+use Rattle.session.specs.declared.fault.SessionFault.TheVariants.{Done, OutOfLimits, Unlisted, NotNow, NoNotice, AlreadyListed, NoSale, AlreadyMandatory, Insignificant, NoPlace, Unfillable}
 use Rattle.session.specs.declared.notice.Notice.{Notice}
-use Rattle.session.specs.Replies.{accepted}
+use Rattle.session.specs.Answers.{at_price}
+use Rattle.session.specs.Replies.{Answer, accepted}
 use Rattle.session.specs.States.{State, opened}
-use Rattle.examples.specs.Examples.{Example, has_reference, has_tick, has_standing, is_always_out, has_class, trade, are_unfillable, are_filled, have_imbalance, has_allowance, has_entry, has_publication, shared_by_arrival, shared_by_turns}
+use Rattle.examples.specs.Examples.{Example, has_reference, has_tick, has_standing, is_always_out, has_class, trade, are_unfillable, are_filled, have_imbalance, has_allowance, has_entry, has_publication, has_close, lives_by_arrival, lives_by_turns, shared_by_arrival, shared_by_turns}
 
 -- the row of an order of a kind, side, price and size, without a mark
 abbrev unmarked : Kind → Side → ℕ → ℕ → Row
@@ -37,13 +42,9 @@ plus_at p = record { price = p; tick = Plus }
 abbrev minus_at : ℕ → Sale
 minus_at p = record { price = p; tick = Minus }
 
--- a price after a last sale
-abbrev at_after : ℕ → Sale → Terms
-at_after p last = record { price = p; sale = last }
-
 -- the price 1500 after a last sale at 1500, on a plus tick
 abbrev at_1500 : Terms
-at_1500 = at_after 1500 (plus_at 1500)
+at_1500 = at_price 1500 (plus_at 1500)
 
 -- a quote with a bid and an offer
 abbrev quote : ℕ → ℕ → Quote
@@ -74,6 +75,111 @@ notice amount mandatory = record { amount = amount; reference = 1500; mandatory 
 abbrev notice_to_buy : Bool → Notice
 notice_to_buy mandatory = notice (pos 50000) mandatory
 
+-- a market on close to buy faces three sells, as large together: a market on close, a limit order on the book at 3025 and crowd interest
+abbrev book_at_3025 : List Row
+book_at_3025 = unmarked MarketOnClose Buy 0 6000000 ∷ unmarked MarketOnClose Sell 0 5000000 ∷ unmarked Book Sell 3025 700000 ∷ unmarked Crowd Sell 0 300000 ∷ []
+
+-- a market on close to buy alone, which no price fills
+abbrev lone_buy : List Row
+lone_buy = unmarked MarketOnClose Buy 0 100 ∷ []
+
+-- a print of a volume at a price
+abbrev print : ℕ → ℕ → Print
+print p v = record { price = p; volume = v }
+
+-- the order of a row comes in under a number
+abbrev entry : ℕ → Row → Call
+entry number row = call.Entry (record (ticket_of row) { number = number })
+
+-- a call is accepted, with nothing more to say
+abbrev taken : Answer
+taken = Ok Taken
+
+-- a close is completed with a print of a volume at a price
+abbrev printed : ℕ → ℕ → Answer
+printed p v = Ok (Printed (print p v))
+
+-- a life that closes at its second price: after sales at 1999 and 2000 the orders of the offset book come in, a cancel of a number that is not
+-- listed is refused, and at 16:00 the session is closed at 2001, which is unfillable, and at 2002
+abbrev sample_life : List (Call × Answer)
+sample_life =
+    (call.Sale 1999, taken)
+    ∷ (call.Sale 2000, taken)
+    ∷ (entry 1 (unmarked MarketOnClose Buy 0 1000), taken)
+    ∷ (entry 2 (marked MarketOnClose Sell 0 300), taken)
+    ∷ (entry 3 (unmarked LimitOnClose Sell 2002 500), taken)
+    ∷ (entry 4 (unmarked ClosingOffset Sell 2002 400), taken)
+    ∷ (call.Cancel 9 false, Err Unlisted)
+    ∷ (call.Time 57600, taken)
+    ∷ (call.Close 2001, Err Unfillable)
+    ∷ (call.Close 2002, printed 2002 1000)
+    ∷ []
+
+-- a market on close to buy is alone at 16:00
+abbrev lone_life : List (Call × Answer)
+lone_life =
+    (call.Sale 1500, taken)
+    ∷ (entry 1 (unmarked MarketOnClose Buy 0 100), taken)
+    ∷ (call.Time 57600, taken)
+    ∷ (call.Close 1500, Err Unfillable)
+    ∷ []
+
+-- calls after a completed close are refused as done
+abbrev done_life : List (Call × Answer)
+done_life =
+    (call.Sale 1500, taken)
+    ∷ (entry 1 (unmarked MarketOnClose Buy 0 100), taken)
+    ∷ (entry 2 (unmarked MarketOnClose Sell 0 100), taken)
+    ∷ (call.Time 57600, taken)
+    ∷ (call.Close 1500, printed 1500 100)
+    ∷ (call.Close 1500, Err Done)
+    ∷ (call.Time 57601, Err Done)
+    ∷ []
+
+-- from 15:45 on a mandatory notice to buy lets a limit on close to sell in and a market on close to buy not, and an order goes off with the
+-- error flag only
+abbrev noticed_life : List (Call × Answer)
+noticed_life =
+    (call.Sale 1500, taken)
+    ∷ (entry 1 (unmarked MarketOnClose Buy 0 60000), taken)
+    ∷ (entry 2 (unmarked MarketOnClose Buy 0 1000), taken)
+    ∷ (call.Time 56700, taken)
+    ∷ (entry 3 (unmarked LimitOnClose Sell 1500 60000), Err NoNotice)
+    ∷ (call.Publication false, Ok (Published (notice (pos 61000) true)))
+    ∷ (entry 3 (unmarked LimitOnClose Sell 1500 60000), taken)
+    ∷ (entry 4 (unmarked MarketOnClose Buy 0 500), Err NoNotice)
+    ∷ (call.Cancel 2 false, Err NotNow)
+    ∷ (call.Cancel 2 true, taken)
+    ∷ (call.Time 57600, taken)
+    ∷ (call.Close 1500, printed 1500 60000)
+    ∷ []
+
+-- of three orders on the book one is cancelled and one reduced before the close
+abbrev changed_life : List (Call × Answer)
+changed_life =
+    (call.Sale 1500, taken)
+    ∷ (entry 1 (unmarked MarketOnClose Buy 0 500), taken)
+    ∷ (entry 2 (unmarked Book Sell 1500 300), taken)
+    ∷ (entry 3 (unmarked Book Sell 1500 400), taken)
+    ∷ (entry 4 (unmarked Book Sell 1500 200), taken)
+    ∷ (call.Cancel 2 false, taken)
+    ∷ (call.Reduction 3 350 false, taken)
+    ∷ (call.Time 57600, taken)
+    ∷ (call.Close 1500, printed 1500 500)
+    ∷ []
+
+-- a market on close to buy leaves 250 for three orders on the book, which have 300, 50 and 200
+abbrev cut_life : List (Call × Answer)
+cut_life =
+    (call.Sale 1500, taken)
+    ∷ (entry 1 (unmarked MarketOnClose Buy 0 250), taken)
+    ∷ (entry 2 (unmarked Book Sell 1500 300), taken)
+    ∷ (entry 3 (unmarked Book Sell 1500 50), taken)
+    ∷ (entry 4 (unmarked Book Sell 1500 200), taken)
+    ∷ (call.Time 57600, taken)
+    ∷ (call.Close 1500, printed 1500 250)
+    ∷ []
+
 -- the worked examples
 abbrev pub table : List Example
 table =
@@ -85,16 +191,16 @@ table =
     ∷ has_tick (Some (minus_at 2000)) 2000 Minus
     ∷ has_tick None 2000 Plus
     -- marked orders, held to the tick bound
-    ∷ has_standing (marked LimitOnClose Sell 1009 100) (at_after 1010 (plus_at 1011)) Out
-    ∷ has_standing (marked LimitOnClose Buy 1011 100) (at_after 1010 (minus_at 1009)) Out
+    ∷ has_standing (marked LimitOnClose Sell 1009 100) (at_price 1010 (plus_at 1011)) Out
+    ∷ has_standing (marked LimitOnClose Buy 1011 100) (at_price 1010 (minus_at 1009)) Out
     ∷ is_always_out (marked MarketOnClose Buy 0 100) (plus_at 1)
-    ∷ has_standing (marked MarketOnClose Sell 0 100) (at_after 4601 (minus_at 4600)) At
-    ∷ has_class (marked MarketOnClose Sell 0 100) (at_after 4601 (minus_at 4600)) (Some MarkedMarketAt)
-    ∷ has_class (marked MarketOnClose Sell 0 100) (at_after 1501 (plus_at 1500)) (Some MustExecute)
-    ∷ has_class (marked LimitOnClose Sell 1500 100) (at_after 1501 (plus_at 1500)) (Some MustExecute)
+    ∷ has_standing (marked MarketOnClose Sell 0 100) (at_price 4601 (minus_at 4600)) At
+    ∷ has_class (marked MarketOnClose Sell 0 100) (at_price 4601 (minus_at 4600)) (Some MarkedMarketAt)
+    ∷ has_class (marked MarketOnClose Sell 0 100) (at_price 1501 (plus_at 1500)) (Some MustExecute)
+    ∷ has_class (marked LimitOnClose Sell 1500 100) (at_price 1501 (plus_at 1500)) (Some MustExecute)
     ∷ has_class (marked LimitOnClose Sell 1500 100) at_1500 (Some MarkedLimitAt)
-    ∷ has_class (marked MarketOnClose Buy 0 100) (at_after 1499 (plus_at 1500)) (Some MarkedMarketAt)
-    ∷ has_class (marked LimitOnClose Buy 1501 100) (at_after 1500 (minus_at 1500)) (Some MarkedLimitAt)
+    ∷ has_class (marked MarketOnClose Buy 0 100) (at_price 1499 (plus_at 1500)) (Some MarkedMarketAt)
+    ∷ has_class (marked LimitOnClose Buy 1501 100) (at_price 1500 (minus_at 1500)) (Some MarkedLimitAt)
     -- classes of unmarked buys, by kind; that of a closing offset order is open to the lighter side only
     ∷ has_class (unmarked MarketOnClose Buy 0 100) at_1500 (Some MustExecute)
     ∷ has_class (unmarked Crowd Buy 0 100) at_1500 (Some MustExecute)
@@ -125,12 +231,12 @@ table =
     ∷ has_class (unmarked Stop Sell 1499 100) at_1500 None
     -- volumes, and an unfillable price
     ∷ trade [] at_1500 0
-    ∷ trade (unmarked MarketOnClose Buy 0 6000000 ∷ unmarked MarketOnClose Sell 0 5000000 ∷ unmarked Book Sell 3025 700000 ∷ unmarked Crowd Sell 0 300000 ∷ []) (at_after 3025 (plus_at 3025)) 6000000
-    ∷ are_unfillable (unmarked MarketOnClose Buy 0 100 ∷ []) at_1500
+    ∷ trade book_at_3025 (at_price 3025 (plus_at 3025)) 6000000
+    ∷ are_unfillable lone_buy at_1500
     -- closing offset orders: after a limit on close, in order of arrival, with equal sides, on the heavier side, and filled whole
-    ∷ are_unfillable offset_book (at_after 2001 (plus_at 2000))
-    ∷ trade offset_book (at_after 2002 (plus_at 2000)) 1000
-    ∷ are_filled offset_book (at_after 2002 (plus_at 2000)) (1000 ∷ 300 ∷ 500 ∷ 200 ∷ []) 1000
+    ∷ are_unfillable offset_book (at_price 2001 (plus_at 2000))
+    ∷ trade offset_book (at_price 2002 (plus_at 2000)) 1000
+    ∷ are_filled offset_book (at_price 2002 (plus_at 2000)) (1000 ∷ 300 ∷ 500 ∷ 200 ∷ []) 1000
     ∷ are_filled (unmarked MarketOnClose Buy 0 50000 ∷ unmarked ClosingOffset Sell 1500 50000 ∷ unmarked ClosingOffset Sell 1500 50000 ∷ []) at_1500 (50000 ∷ 50000 ∷ 0 ∷ []) 50000
     ∷ are_filled (unmarked MarketOnClose Buy 0 100 ∷ unmarked MarketOnClose Sell 0 100 ∷ unmarked ClosingOffset Buy 1500 100 ∷ []) at_1500 (100 ∷ 100 ∷ 0 ∷ []) 100
     ∷ are_filled (unmarked MarketOnClose Buy 0 100 ∷ unmarked Book Sell 1500 200 ∷ unmarked ClosingOffset Sell 1500 100 ∷ []) at_1500 (100 ∷ 100 ∷ 0 ∷ []) 100
@@ -138,9 +244,9 @@ table =
     -- imbalances: counted in hundreds, and against marked orders, which offset only where they are eligible
     ∷ have_imbalance (imbalance_book 4950) at_1500 (pos 50100)
     ∷ have_imbalance (imbalance_book 5100) at_1500 (pos 49900)
-    ∷ have_imbalance (against_marked Buy 1009) (at_after 1010 (plus_at 1011)) (pos 60000)
-    ∷ have_imbalance (against_marked Sell 1011) (at_after 1010 (minus_at 1009)) (neg_ℤ (pos 60000))
-    ∷ have_imbalance (against_marked Buy 1009) (at_after 1010 (plus_at 1009)) (pos 50000)
+    ∷ have_imbalance (against_marked Buy 1009) (at_price 1010 (plus_at 1011)) (pos 60000)
+    ∷ have_imbalance (against_marked Sell 1011) (at_price 1010 (minus_at 1009)) (neg_ℤ (pos 60000))
+    ∷ have_imbalance (against_marked Buy 1009) (at_price 1010 (plus_at 1009)) (pos 50000)
     -- the clock, at the last second of a phase and the first of the next: market on close comes in and goes off
     ∷ has_allowance 56699 (event.In MarketOnClose) Yes
     ∷ has_allowance 56700 (event.In MarketOnClose) AgainstNotice
@@ -188,6 +294,30 @@ table =
     ∷ has_publication (session_at 56700) (imbalance_book 4950) (notice (pos 50100) true ∷ []) false (Err AlreadyMandatory)
     ∷ has_publication opened (imbalance_book 4950) [] false (Err NoSale)
     ∷ has_publication (session_at 57600) (imbalance_book 4950) [] false (Err NotNow)
+    -- closes, at 16:00 after a sale at 1500 unless said: of an empty list, of an unfillable one, and without a place in the work lists, which
+    -- question 20 asks for before 21 asks for an assignment
+    ∷ has_close (session_at 57600) [] 0 1500 (Ok (print 1500 0))
+    ∷ has_close (session_at 57600) lone_buy 1 1500 (Err Unfillable)
+    ∷ has_close (session_at 57600) lone_buy 0 1500 (Err NoPlace)
+    ∷ has_close (session_at 57600) (unmarked MarketOnClose Buy 0 100 ∷ unmarked MarketOnClose Sell 0 100 ∷ []) 1 1500 (Err NoPlace)
+    -- before 16:00, at prices outside the limits, before any sale, and after a completed close
+    ∷ has_close (session_at 57599) [] 0 1500 (Err NotNow)
+    ∷ has_close (session_at 57600) [] 0 0 (Err OutOfLimits)
+    ∷ has_close (session_at 57600) [] 0 10000000 (Err OutOfLimits)
+    ∷ has_close (record opened { time = 57600 }) [] 0 1500 (Err NoSale)
+    ∷ has_close (record (session_at 57600) { done = true }) [] 0 1500 (Err Done)
+    -- the volume above, at 3025 after a sale at 3025
+    ∷ has_close (record opened { time = 57600; sale = Some (plus_at 3025) }) book_at_3025 4 3025 (Ok (print 3025 6000000))
+    -- whole lives: closed at a second price after the first is unfillable, not closed, and closed once only
+    ∷ lives_by_arrival sample_life (1000 ∷ 300 ∷ 500 ∷ 200 ∷ [])
+    ∷ lives_by_arrival lone_life (0 ∷ [])
+    ∷ lives_by_arrival done_life (100 ∷ 100 ∷ [])
+    -- with a mandatory notice, and with orders that go off, where what is left is filled
+    ∷ lives_by_arrival noticed_life (60000 ∷ 60000 ∷ [])
+    ∷ lives_by_arrival changed_life (500 ∷ 350 ∷ 150 ∷ [])
+    -- one life with a class that is cut, shared by both methods
+    ∷ lives_by_turns cut_life (250 ∷ 100 ∷ 50 ∷ 100 ∷ [])
+    ∷ lives_by_arrival cut_life (250 ∷ 250 ∷ 0 ∷ 0 ∷ [])
     -- one amount shared by both methods
     ∷ shared_by_turns 250 (300 ∷ 50 ∷ 200 ∷ []) (100 ∷ 50 ∷ 100 ∷ [])
     ∷ shared_by_arrival 250 (300 ∷ 50 ∷ 200 ∷ []) (250 ∷ 0 ∷ 0 ∷ [])

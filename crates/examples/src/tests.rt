@@ -1,7 +1,9 @@
-// The code run on examples: reference prices, imbalances, refusals, and a row that fails its check.
+// The code run on examples: reference prices, imbalances, refusals, a row that fails its check, and a whole life.
 use book::{FillFault, fill, imbalance_at};
+use life::{TooFewPlaces, live};
 use list::List;
-use order::{Kind, Quote, Row, Sale, Side, Terms, Tick, reference_price};
+use order::{Kind, Quote, Row, Sale, Side, Terms, Tick, Ticket, reference_price};
+use session::{Call, Notice, Outcome, Print, SessionFault};
 use sharing::ByArrival;
 use std::test::Fail;
 
@@ -83,4 +85,75 @@ fn row_that_fails_its_check(rt: HostRuntime) -> Result<(), Fail> {
         assert_eq!(rt; row.filled, filled);
     }
     Ok(())
+}
+
+fn entry(number: u32, kind: Kind, side: Side, marked: bool, price: u32, size: u32) -> Call {
+    Call::Entry(Ticket {
+        number,
+        kind,
+        side,
+        marked,
+        price,
+        size,
+    })
+}
+
+// The sample life of the table: refused with one place too few for the answers, and then lived.
+#[test]
+fn whole_life(rt: HostRuntime) {
+    let calls = [
+        Call::Sale(1999),
+        Call::Sale(2000),
+        entry(1, Kind::MarketOnClose, Side::Buy, false, 0, 1000),
+        entry(2, Kind::MarketOnClose, Side::Sell, true, 0, 300),
+        entry(3, Kind::LimitOnClose, Side::Sell, false, 2002, 500),
+        entry(4, Kind::ClosingOffset, Side::Sell, false, 2002, 400),
+        Call::Cancel {
+            number: 9,
+            in_error: false,
+        },
+        Call::Time(57_600),
+        Call::Close(2001),
+        Call::Close(2002),
+    ];
+    let print = Print {
+        price: 2002,
+        volume: 1000,
+    };
+    let mut places = [Row::unfilled(0, Kind::Crowd, Side::Buy, false, 0, 0); 6];
+    let mut orders = List::new(&mut places);
+    let mut notice_places = [Notice {
+        amount: 0,
+        reference: 0,
+        mandatory: false,
+    }; 6];
+    let mut notices = List::new(&mut notice_places);
+    let mut claims = [0; 6];
+    let mut gifts = [0; 6];
+    let mut answers = [Err(SessionFault::Done); 10];
+    for (room, wanted) in [(9, Err(TooFewPlaces)), (10, Ok(true))] {
+        let lived = live(
+            &mut orders,
+            &mut notices,
+            &ByArrival,
+            &mut claims,
+            &mut gifts,
+            &calls,
+            &mut answers[..room],
+        );
+        assert_eq!(rt; lived.map(|session| session.is_done()), wanted);
+    }
+    for (place, answer) in answers.iter().enumerate() {
+        let wanted = match place {
+            6 => Err(SessionFault::Unlisted),
+            8 => Err(SessionFault::Unfillable),
+            9 => Ok(Outcome::Printed(print)),
+            _ => Ok(Outcome::Taken),
+        };
+        assert_eq!(rt; *answer, wanted, "at {place}");
+    }
+    assert_eq!(rt; orders.len(), 4);
+    for (row, filled) in orders.elements().iter().zip([1000, 300, 500, 200]) {
+        assert_eq!(rt; row.filled, filled);
+    }
 }
