@@ -1,4 +1,4 @@
-// Shows a session through a sample day up to the close: each call, and what it is answered.
+// Shows a session through a sample day and its close: each call, and what it is answered.
 #![tactic(auto)]
 
 mod calls;

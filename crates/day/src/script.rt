@@ -1,22 +1,29 @@
-// The calls of the sample day, from the morning to five seconds past 16:00.
+// The calls of the sample day, from the morning to the close.
 use crate::calls::PrintedSession;
 use list::List;
 use order::{Kind, Row, Side};
 use session::Notice;
 use std::io;
 
+/// How many orders the list of the day has places for.
+const ORDERS: usize = 8;
+
 /// Shows the sample day.
 pub(crate) fn show_day(rt: &(impl Alloc + Print)) -> io::Result<()> {
-    let mut order_places = [Row::unfilled(0, Kind::Crowd, Side::Buy, false, 0, 0); 8];
+    let mut order_places = [Row::unfilled(0, Kind::Crowd, Side::Buy, false, 0, 0); ORDERS];
     let mut notice_places = [Notice {
         amount: 0,
         reference: 0,
         mandatory: false,
     }; 2];
+    let mut claims = [0; ORDERS];
+    let mut gifts = [0; ORDERS];
     let mut session = PrintedSession::open(
         rt,
         List::new(&mut order_places),
         List::new(&mut notice_places),
+        &mut claims,
+        &mut gifts,
     );
     call_at_opening(&mut session)?;
     call_in_morning(&mut session)?;
@@ -24,6 +31,8 @@ pub(crate) fn show_day(rt: &(impl Alloc + Print)) -> io::Result<()> {
     call_from_15_45(&mut session)?;
     call_from_15_58(&mut session)?;
     call_from_16_00(&mut session)?;
+    call_at_close(&mut session)?;
+    session.print_fills()?;
     session.print_readers()
 }
 
@@ -77,18 +86,28 @@ fn call_from_15_45(session: &mut PrintedSession<'_, impl Alloc + Print>) -> io::
     session.cancel(2, true)
 }
 
-/// A cancel that the error flag no longer allows, an earlier time, and totals.
+/// A cancel that the error flag no longer allows, an earlier time, totals, and a close that comes too early.
 fn call_from_15_58(session: &mut PrintedSession<'_, impl Alloc + Print>) -> io::Result<()> {
     session.set_time(at(15, 58, 0))?;
     session.cancel(1, true)?;
     session.set_time(at(15, 50, 0))?;
-    session.totals(2000)
+    session.totals(2000)?;
+    session.close(2000)
 }
 
-/// A sale that comes too late, crowd interest, and the time five seconds later.
+/// A sale that comes too late, crowd interest, the market maker's interest at one cent more than before, and the time five seconds later.
 fn call_from_16_00(session: &mut PrintedSession<'_, impl Alloc + Print>) -> io::Result<()> {
     session.set_time(at(16, 0, 0))?;
     session.record_sale(2001)?;
     session.enter(10, Kind::Crowd, Side::Sell, 0, 5_000)?;
+    session.enter(11, Kind::MarketMaker, Side::Sell, 2001, 20_000)?;
     session.set_time(at(16, 0, 5))
+}
+
+/// A close at a price at which too few shares are to sell for order 1, which must execute whole, a close at the price of order 11, of which a part
+/// is filled, and a cancel after the close.
+fn call_at_close(session: &mut PrintedSession<'_, impl Alloc + Print>) -> io::Result<()> {
+    session.close(2000)?;
+    session.close(2001)?;
+    session.cancel(11, false)
 }

@@ -1,6 +1,6 @@
-// The texts of the sample day: a time of day, an order that comes in, an answer, and what there is or is not.
+// The texts of the sample day: a time of day, the word of a side, an order that comes in, an answer, and what there is or is not.
 use order::{Sale, Side, Ticket};
-use session::{Notice, SessionFault};
+use session::{Outcome, SessionFault};
 use std::fmt;
 
 /// A time of day, in seconds after midnight: printed as hours, minutes and seconds.
@@ -16,6 +16,14 @@ impl fmt::Display for Clock {
     }
 }
 
+/// The word that a side is printed as.
+pub(crate) fn side_word(side: Side) -> &'static str {
+    match side {
+        Side::Buy => "buy",
+        Side::Sell => "sell",
+    }
+}
+
 /// An order that comes in: printed without its price where that is 0.
 #[derive(Clone, Copy, PartialEq, Eq, Debug)]
 pub(crate) struct Incoming(pub(crate) Ticket);
@@ -24,10 +32,7 @@ impl fmt::Display for Incoming {
     fn fmt<W: fmt::Write>(&self, f: &mut fmt::Formatter<W>) -> fmt::Result {
         let number = self.0.number;
         let kind = self.0.kind;
-        let side = match self.0.side {
-            Side::Buy => "buy",
-            Side::Sell => "sell",
-        };
+        let side = side_word(self.0.side);
         let size = self.0.size;
         write!(f, "order {number}, {kind} to {side} {size}")?;
         match self.0.price {
@@ -40,8 +45,7 @@ impl fmt::Display for Incoming {
 /// What a call is answered.
 #[derive(Clone, Copy, PartialEq, Eq, Debug)]
 pub(crate) enum Answer {
-    Accepted,
-    Published(Notice),
+    Accepted(Outcome),
     /// W to buy and W to sell.
     Totals(u64, u64),
     Refused(SessionFault),
@@ -50,12 +54,17 @@ pub(crate) enum Answer {
 impl fmt::Display for Answer {
     fn fmt<W: fmt::Write>(&self, f: &mut fmt::Formatter<W>) -> fmt::Result {
         match *self {
-            Answer::Accepted => write!(f, "accepted"),
-            Answer::Published(notice) => {
+            Answer::Accepted(Outcome::Taken) => write!(f, "accepted"),
+            Answer::Accepted(Outcome::Published(notice)) => {
                 let amount = notice.amount;
                 let reference = notice.reference;
                 let not = if notice.mandatory { "" } else { "not " };
                 write!(f, "notice {amount} at {reference}, {not}mandatory")
+            }
+            Answer::Accepted(Outcome::Printed(print)) => {
+                let price = print.price;
+                let volume = print.volume;
+                write!(f, "print at {price}, volume {volume}")
             }
             Answer::Totals(buy, sell) => write!(f, "W to buy {buy}, W to sell {sell}"),
             Answer::Refused(fault) => {
