@@ -33,8 +33,8 @@ use Rattle.session.specs.Agreement.{Agrees, KeepsLedger}
 use Rattle.session.specs.Answers.{allowance_of, lets_now, listed_at, entry_answer, cancel_answer, reduction_answer, publication_answer}
 use Rattle.session.specs.Changes.{at_time, after_sale, after_quote}
 use Rattle.session.specs.Ledgers.{Ledger, noted, without_first, with_first_sized}
-use Rattle.session.specs.Lives.{Life, begun, later, ledger_of, notices_of, was_closed}
-use Rattle.session.specs.Laws.{Lawful, Lived, KeepsLife, Heeds, AllUpheld, HaveOwnNumbers, mandatory_count, numbers}
+use Rattle.session.specs.Lives.{Life, begun, later, ledger_of, time_after, time_of, notices_of, was_closed}
+use Rattle.session.specs.Laws.{Lived, KeepsLife, Heeds, AllUpheld, HaveOwnNumbers, mandatory_count, numbers}
 use Rattle.session.specs.Notices.{reference_of, notice_of, is_faced, has_mandatory, is_notable}
 use Rattle.session.specs.Questions.{refused_with}
 use Rattle.session.specs.Replies.{Answer, accepted, is_print}
@@ -102,10 +102,29 @@ module _ (life : Life) (call : Call) (outcome : Outcome) (other : is_close call 
   upheld_after : (xs ys : List ℕ) → AllUpheld life xs → AllUpheld (later life call (Ok outcome)) ys
   upheld_after xs ys u = (all_upheld_with life xs ys undone u, other_upheld (ledger_of life) call (Ok outcome) ys other no_print (λ e. absurd (true≢false (sym e))) refl refl)
 
--- an accepted call keeps a life lawful where it heeds the notices, and leaves each order its own number
-taken_lawful : (life : Life) (call : Call) → was_closed life ≡ false → HaveOwnNumbers (noted (ledger_of life) call).orders → Heeds life call → Lawful life → Lawful (later life call (Ok Taken))
-taken_lawful life call undone once heeds old =
-    record { once = once; heeded = (old.heeded, λ _. heeds); marked = old.marked; one_mandatory = old.one_mandatory; ends = (old.ends, sym undone) }
+-- an accepted call carries every life on where it keeps the ledger, moves the clock as it says, leaves each order its own number, and heeds the notices
+taken_life : (call : Call) → is_close call ≡ false → (s : State) (rows : List Row) (notices : List Notice) (s' : State) (rows' : List Row) → s.done ≡ false → s'.done ≡ false
+    → KeepsLedger call true s rows s' rows'
+    → ((now : ℕ) → s.time ≡ now → s'.time ≡ time_after now call)
+    → ((life : Life) → Lived life s rows notices → HaveOwnNumbers (noted (ledger_of life) call).orders × Heeds life call)
+    → KeepsLife call (Ok Taken) s rows notices s' rows' notices
+taken_life call other s rows notices s' rows' undone still ledger clock law = λ life old.
+    let none : was_closed life ≡ false = sym old.same_end ∙ undone in
+    let keeps = law life old in
+    record {
+      agrees = ledger (ledger_of life) old.agrees;
+      same_time = clock (time_of life) old.same_time;
+      same_notices = old.same_notices;
+      same_end = still ∙ sym (end_after life call Taken other refl none);
+      upheld = upheld_after life call Taken other refl none (filled_shares rows) (filled_shares rows') old.upheld;
+      lawful = record {
+        once = keeps.0;
+        heeded = (old.lawful.heeded, λ _. keeps.1);
+        marked = old.lawful.marked;
+        one_mandatory = old.lawful.one_mandatory;
+        ends = (old.lawful.ends, sym none);
+      };
+    }
 
 -- a session has just opened
 pub begun_life : Lived begun opened [] []
@@ -122,40 +141,20 @@ begun_life =
 -- the clock moves, a sale or a quote comes in
 module _ (s : State) (rows : List Row) (notices : List Notice) (undone : s.done ≡ false) where
   pub time_life : (t : ℕ) → KeepsLife (Time t) (Ok Taken) s rows notices (at_time s t) rows notices
-  time_life t = λ life old.
-      let none : was_closed life ≡ false = sym old.same_end ∙ undone in
-      record {
-        agrees = record { same_orders = old.agrees.same_orders; same_sale = old.agrees.same_sale; all_sound = old.agrees.all_sound };
-        same_time = refl;
-        same_notices = old.same_notices;
-        same_end = undone ∙ sym (end_after life (Time t) Taken refl refl none);
-        upheld = upheld_after life (Time t) Taken refl refl none (filled_shares rows) _ old.upheld;
-        lawful = taken_lawful life (Time t) none old.lawful.once tt old.lawful;
-      }
+  time_life t =
+      taken_life (Time t) refl s rows notices (at_time s t) rows undone undone
+      (λ L old. record { same_orders = old.same_orders; same_sale = old.same_sale; all_sound = old.all_sound }) (λ now e. refl) (λ life old. (old.lawful.once, tt))
 
   pub sale_life : (p : ℕ) → KeepsLife (Sale p) (Ok Taken) s rows notices (after_sale s p) rows notices
-  sale_life p = λ life old.
-      let none : was_closed life ≡ false = sym old.same_end ∙ undone in
-      record {
-        agrees = record { same_orders = old.agrees.same_orders; same_sale = ap (λ (last : Option LastSale). Some (sale_after last p)) old.agrees.same_sale; all_sound = old.agrees.all_sound };
-        same_time = old.same_time;
-        same_notices = old.same_notices;
-        same_end = undone ∙ sym (end_after life (Sale p) Taken refl refl none);
-        upheld = upheld_after life (Sale p) Taken refl refl none (filled_shares rows) _ old.upheld;
-        lawful = taken_lawful life (Sale p) none old.lawful.once tt old.lawful;
-      }
+  sale_life p =
+      taken_life (Sale p) refl s rows notices (after_sale s p) rows undone undone
+      (λ L old. record { same_orders = old.same_orders; same_sale = ap (λ (last : Option LastSale). Some (sale_after last p)) old.same_sale; all_sound = old.all_sound })
+      (λ now e. e) (λ life old. (old.lawful.once, tt))
 
   pub quote_life : (q : AQuote) → KeepsLife (Quote q) (Ok Taken) s rows notices (after_quote s q) rows notices
-  quote_life q = λ life old.
-      let none : was_closed life ≡ false = sym old.same_end ∙ undone in
-      record {
-        agrees = record { same_orders = old.agrees.same_orders; same_sale = old.agrees.same_sale; all_sound = old.agrees.all_sound };
-        same_time = old.same_time;
-        same_notices = old.same_notices;
-        same_end = undone ∙ sym (end_after life (Quote q) Taken refl refl none);
-        upheld = upheld_after life (Quote q) Taken refl refl none (filled_shares rows) _ old.upheld;
-        lawful = taken_lawful life (Quote q) none old.lawful.once tt old.lawful;
-      }
+  quote_life q =
+      taken_life (Quote q) refl s rows notices (after_quote s q) rows undone undone
+      (λ L old. record { same_orders = old.same_orders; same_sale = old.same_sale; all_sound = old.all_sound }) (λ now e. e) (λ life old. (old.lawful.once, tt))
 
 -- an order comes in
 module _ (s : State) (rows : List Row) (notices : List Notice) (t : Ticket) (full : Bool) (e : entry_answer s rows full notices t ≡ accepted) where
@@ -173,17 +172,9 @@ module _ (s : State) (rows : List Row) (notices : List Notice) (t : Ticket) (ful
       rw (← old.same_notices) (is_faced-from_or _ _ asked.heeds (late_wants_notice t.kind on s.time (rw (old.same_time) late) asked.lets))
 
   pub entry_life : s.done ≡ false → KeepsLife (Entry t) (Ok Taken) s rows notices s (rows ++ entered_row t ∷ []) notices
-  entry_life undone = λ life old.
-      let none : was_closed life ≡ false = sym old.same_end ∙ undone in
-      let asked = entered s rows full notices t e in
-      record {
-        agrees = entry_ledger (ledger_of life) old.agrees;
-        same_time = old.same_time;
-        same_notices = old.same_notices;
-        same_end = undone ∙ sym (end_after life (Entry t) Taken refl refl none);
-        upheld = upheld_after life (Entry t) Taken refl refl none (filled_shares rows) _ old.upheld;
-        lawful = taken_lawful life (Entry t) none (once-push (ledger_of life).orders t (subst (HaveOthers t.number) old.agrees.same_orders (new-number t.number rows old.agrees.all_sound (none-listed _ asked.unlisted))) old.lawful.once) (heeds-entry life old) old.lawful;
-      }
+  entry_life undone =
+      taken_life (Entry t) refl s rows notices s (rows ++ entered_row t ∷ []) undone undone entry_ledger (λ now e. e)
+      (λ life old. (once-push (ledger_of life).orders t (subst (HaveOthers t.number) old.agrees.same_orders (new-number t.number rows old.agrees.all_sound (none-listed _ (entered s rows full notices t e).unlisted))) old.lawful.once, heeds-entry life old))
 
 -- an order goes off
 module _ (s : State) (rows : List Row) (n i : ℕ) (in_error : Bool) (f : FirstNumbered n rows i) where
@@ -196,16 +187,9 @@ module _ (s : State) (rows : List Row) (n i : ℕ) (in_error : Bool) (f : FirstN
       }
 
   pub cancel_life : s.done ≡ false → (notices : List Notice) → KeepsLife (Cancel n in_error) (Ok Taken) s rows notices s (remove rows i) notices
-  cancel_life undone notices = λ life old.
-      let none : was_closed life ≡ false = sym old.same_end ∙ undone in
-      record {
-        agrees = cancel_ledger (ledger_of life) old.agrees;
-        same_time = old.same_time;
-        same_notices = old.same_notices;
-        same_end = undone ∙ sym (end_after life (Cancel n in_error) Taken refl refl none);
-        upheld = upheld_after life (Cancel n in_error) Taken refl refl none (filled_shares rows) _ old.upheld;
-        lawful = taken_lawful life (Cancel n in_error) none (subst (λ (orders : List Ticket). HaveOwnNumbers orders → HaveOwnNumbers (without_first n orders)) old.agrees.same_orders (once-without n rows old.agrees.all_sound i f) old.lawful.once) tt old.lawful;
-      }
+  cancel_life undone notices =
+      taken_life (Cancel n in_error) refl s rows notices s (remove rows i) undone undone cancel_ledger (λ now e. e)
+      (λ life old. (subst (λ (orders : List Ticket). HaveOwnNumbers orders → HaveOwnNumbers (without_first n orders)) old.agrees.same_orders (once-without n rows old.agrees.all_sound i f) old.lawful.once, tt))
 
 -- an order is reduced
 module _ (s : State) (rows : List Row) (n i size : ℕ) (d : Row) (in_error : Bool) (f : FirstNumbered n rows i) (fits : is_size size ≡ true) where
@@ -218,16 +202,9 @@ module _ (s : State) (rows : List Row) (n i size : ℕ) (d : Row) (in_error : Bo
       }
 
   pub reduction_life : s.done ≡ false → (notices : List Notice) → KeepsLife (Reduction n size in_error) (Ok Taken) s rows notices s (set rows i (resized (get_or rows i d) size)) notices
-  reduction_life undone notices = λ life old.
-      let none : was_closed life ≡ false = sym old.same_end ∙ undone in
-      record {
-        agrees = reduction_ledger (ledger_of life) old.agrees;
-        same_time = old.same_time;
-        same_notices = old.same_notices;
-        same_end = undone ∙ sym (end_after life (Reduction n size in_error) Taken refl refl none);
-        upheld = upheld_after life (Reduction n size in_error) Taken refl refl none (filled_shares rows) _ old.upheld;
-        lawful = taken_lawful life (Reduction n size in_error) none (rw numbers-sized old.lawful.once) tt old.lawful;
-      }
+  reduction_life undone notices =
+      taken_life (Reduction n size in_error) refl s rows notices s (set rows i (resized (get_or rows i d) size)) undone undone reduction_ledger (λ now e. e)
+      (λ life old. (rw numbers-sized old.lawful.once, tt))
 
 -- where no notice is mandatory, none is counted
 none-counted : (ns : List Notice) → has_mandatory ns ≡ false → mandatory_count ns ≡ 0
