@@ -4,5 +4,6 @@ pub mod Given
 pub mod Grounds
 pub mod Upheld
 pub mod Steps
+pub mod Keeping
 pub mod Closing
 pub mod Runs
