@@ -31,11 +31,11 @@ of_fill fill.Unfillable = Unfillable
 of_fill fill.Unequal = Unequal
 
 -- a question: where the answer is no, the refusal, and else what follows
-abbrev pub ask : {T : Type 0} → Bool → SessionFault → Result T SessionFault → Result T SessionFault
+abbrev pub ask : {F T : Type 0} → Bool → F → Result T F → Result T F
 ask answer fault rest = (if answer then rest else Err fault)
 
 -- a question for something: where there is none, the refusal, and else what follows of it
-abbrev pub ask_for : {X T : Type 0} → Option X → SessionFault → (X → Result T SessionFault) → Result T SessionFault
+abbrev pub ask_for : {F X T : Type 0} → Option X → F → (X → Result T F) → Result T F
 ask_for None fault rest = Err fault
 ask_for (Some x) fault rest = rest x
 

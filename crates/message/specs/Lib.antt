@@ -1,0 +1,5 @@
+pub mod Faults
+pub mod Letters
+pub mod Fields
+pub mod Calls
+pub mod Texts
