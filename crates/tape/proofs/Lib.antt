@@ -1,0 +1,5 @@
+pub mod Anywhere
+pub mod Feeding
+pub mod Cutting
+pub mod Playing
+pub mod Upholding
