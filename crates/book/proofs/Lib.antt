@@ -1,3 +1,4 @@
+pub mod Looking
 pub mod Pairs
 pub mod Whole
 pub mod Parts

@@ -77,8 +77,9 @@ fn in_hundreds(size: u32) -> u32
 fn is_aggregated(row: Row, terms: Terms) -> bool
     ensures value { result ≡ in_aggregate terms row }
 {
-    Order::try_from(row).is_ok_and(|order| !row.marked
-        && aggregates_as(row.kind, order.standing(terms)))
+    row.kind.is_on_close()
+        && !row.marked
+        && Order::try_from(row).is_ok_and(|order| aggregates_as(row.kind, order.standing(terms)))
 }
 
 fn aggregates_as(kind: Kind, standing: Standing) -> bool
@@ -93,7 +94,8 @@ fn aggregates_as(kind: Kind, standing: Standing) -> bool
 fn is_offsetting(row: Row, terms: Terms) -> bool
     ensures value { result ≡ in_offset terms row }
 {
-    Order::try_from(row).is_ok_and(|order| {
-        row.kind.is_on_close() && order.class(terms).is_some() && !is_aggregated(row, terms)
-    })
+    row.kind.is_on_close()
+        && Order::try_from(row).is_ok_and(|order| {
+            order.class(terms).is_some() && !is_aggregated(row, terms)
+        })
 }
