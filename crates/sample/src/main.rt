@@ -46,7 +46,8 @@ fn run(rt: &(impl Env + Alloc + Print)) -> Result<(), Trouble> {
     print_table(rt, price).map_err(Trouble::Output)
 }
 
-// An `Err` that `main` returns would be printed by `Debug` after `Error: `. Each program has these lines: a crate for them would be longer.
+// An `Err` that `main` returns would be printed by `Debug` after `Error: `. The programs `cases`, `day`, `divide` and
+// `sample` have these lines each: a crate for them would be longer.
 fn main(rt: HostRuntime) -> ExitCode {
     match run(&rt) {
         Ok(()) => ExitCode::SUCCESS,
