@@ -38,8 +38,15 @@ use Rattle.session.specs.Moments.{Moment}
 use Rattle.session.specs.Replies.{Reply, Answer}
 use Rattle.session.specs.States.{State}
 use Rattle.session.specs.Upheld.{filled_shares}
-use Rattle.life.specs.Stages.{Stage, at_opening, after_all, answers_to}
+use Rattle.life.specs.Stages.{Stage, after_all, answers_to}
 use Rattle.life.specs.Whole.{WholeLife}
+use Rattle.message.specs.Calls.{decoded}
+use Rattle.line.specs.declared.Line.{Line}
+use Rattle.line.specs.Texts.{line_text}
+use Rattle.tape.specs.Messages.{Reading}
+use Rattle.tape.specs.Runs.{stage_on}
+use Rattle.tape.specs.Tapes.{lines_of_file, tape_of}
+use Rattle.tape.specs.Upheld.{messages_in, UpheldTape}
 
 -- a worked example: one sentence of the rule, with numbers
 pub data Example : Type 0 where
@@ -74,6 +81,14 @@ pub data Example : Type 0 where
   lives_by_arrival : List (Call × Answer) → List ℕ → Example
   -- one that shares its close by turns does so
   lives_by_turns : List (Call × Answer) → List ℕ → Example
+  -- sixteen bytes read as this call, or are refused so
+  reads : List ℕ → Reading → Example
+  -- a line has these bytes, and no more than 64
+  has_text : Line → List ℕ → Example
+  -- the bytes of a file have this tape, on a session that opens on lists and work lists of six places and shares its close by arrival
+  has_tape_by_arrival : List ℕ → List ℕ → Example
+  -- they have it where the close is shared by turns
+  has_tape_by_turns : List ℕ → List ℕ → Example
   -- an amount is shared so among claims by arrival
   shared_by_arrival : ℕ → List ℕ → List ℕ → Example
   -- it is shared so among them by turns
@@ -101,7 +116,7 @@ any_notice = record { amount = pos 0; reference = 0; mandatory = false }
 
 -- a session has just opened on lists and work lists of six places
 abbrev pub on_six_places : Stage
-on_six_places = at_opening (holding_all (replicate 6 any_row)) (holding_all (replicate 6 any_notice)) (work_list 6) (work_list 6)
+on_six_places = stage_on (replicate 6 any_row) (replicate 6 any_notice) (work_list 6) (work_list 6)
 
 -- the calls of such a session, without their answers
 abbrev pub calls_of : List (Call × Answer) → List Call
@@ -124,6 +139,13 @@ pub record Lives (meaning : ℕ → List ℕ → List ℕ) (life : List (Call ×
   -- the calls with these answers are a whole life
   pub whole : WholeLife (calls_of life) (answers_of life) (end_of meaning life).state (kept (end_of meaning life).orders) (kept (end_of meaning life).notices)
 
+-- the bytes of a file have this tape, where a close is shared by a method of this lot and this meaning
+pub record HasTape (lot : ℕ) (meaning : ℕ → List ℕ → List ℕ) (file tape : List ℕ) : Type 0 where
+  -- the bytes of its tape are these
+  pub same : tape_of lot meaning on_six_places file ≡ tape
+  -- what it says of the close is upheld by the ledger of the file's own messages
+  pub upheld : UpheldTape (messages_in file) (lines_of_file lot meaning on_six_places file)
+
 -- an example holds: what it says is so by the definitions of the rule
 abbrev pub Holds : Example → Type 0
 Holds (has_reference last quote p) = reference last quote ≡ p
@@ -141,6 +163,10 @@ Holds (has_publication s rows notices significant answer) = publication_answer s
 Holds (has_close s rows places p answer) = close_answer s (holding_all rows) (work_list places) (work_list places) p ≡ answer
 Holds (lives_by_arrival life shares) = Lives arrival life shares
 Holds (lives_by_turns life shares) = Lives turns life shares
+Holds (reads bytes reading) = decoded bytes ≡ reading
+Holds (has_text line bytes) = (line_text line ≡ bytes) × (length bytes ≤ 64)
+Holds (has_tape_by_arrival file tape) = HasTape 1 arrival file tape
+Holds (has_tape_by_turns file tape) = HasTape 100 turns file tape
 Holds (shared_by_arrival amount claims gifts) = arrival amount claims ≡ gifts
 Holds (shared_by_turns amount claims gifts) = turns amount claims ≡ gifts
 

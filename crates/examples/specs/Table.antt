@@ -1,5 +1,5 @@
 -- The table of worked examples. Assumes nothing.
-use Rattle.std.specs.Prelude.{ℕ, Bool, true, false, List, [], ◌∷◌, ℤ, pos, neg_ℤ, Some, None, Ok, Err}
+use Rattle.std.specs.Prelude.{ℕ, Bool, true, false, List, [], ◌∷◌, ◌++◌, replicate, ℤ, pos, neg_ℤ, Some, None, Ok, Err, codes}
 use Rattle.order.specs.declared.class.Class.TheVariants.{MustExecute, BookAt, LimitAt, MarkedMarketAt, MarkedLimitAt, YieldingIn, OffsetIn}
 use Rattle.order.specs.declared.kind.Kind.{Kind}
 use Rattle.order.specs.declared.kind.Kind.TheVariants.{MarketOnClose, Crowd, LimitOnClose, Book, MarketMaker, ClosingOffset, Yielding, Stop}
@@ -24,7 +24,14 @@ use Rattle.session.specs.declared.notice.Notice.{Notice}
 use Rattle.session.specs.Answers.{at_price}
 use Rattle.session.specs.Replies.{Answer, accepted}
 use Rattle.session.specs.States.{State, opened}
-use Rattle.examples.specs.Examples.{Example, has_reference, has_tick, has_standing, is_always_out, has_class, trade, are_unfillable, are_filled, have_imbalance, has_allowance, has_entry, has_publication, has_close, lives_by_arrival, lives_by_turns, shared_by_arrival, shared_by_turns}
+use Rattle.message.specs.declared.fault.FileFault.TheVariants.{NoMark, NoMessage}
+use Rattle.message.specs.declared.fault.FileFault.TheVariants as file
+use Rattle.message.specs.declared.fault.MessageFault.TheVariants.{UnknownVerb, Illegal, NotZero}
+use Rattle.message.specs.declared.fault.MessageFault.TheVariants as message_fault
+use Rattle.line.specs.declared.Line.TheVariants.{Lot, Fill, Refusal}
+use Rattle.line.specs.declared.Line.TheVariants as line
+use Rattle.examples.specs.Examples.{Example, has_reference, has_tick, has_standing, is_always_out, has_class, trade, are_unfillable, are_filled, have_imbalance, has_allowance, has_entry, has_publication, has_close, lives_by_arrival, lives_by_turns, reads, has_text, has_tape_by_arrival, has_tape_by_turns, shared_by_arrival, shared_by_turns}
+use Rattle.examples.specs.Files.{message, unused, sale, sample_file, cut_file, changed_file, noticed_file, quoted_file, lone_file, done_file, refused_file, full_file, short_file, unclosed_file}
 
 -- the row of an order of a kind, side, price and size, without a mark
 abbrev unmarked : Kind → Side → ℕ → ℕ → Row
@@ -318,6 +325,102 @@ table =
     -- one life with a class that is cut, shared by both methods
     ∷ lives_by_turns cut_life (250 ∷ 100 ∷ 50 ∷ 100 ∷ [])
     ∷ lives_by_arrival cut_life (250 ∷ 250 ∷ 0 ∷ 0 ∷ [])
+    -- messages, one of each verb: its letter, those of a kind and a side, a flag, a number, a price and a quantity
+    ∷ reads (message "T" unused unused 0 0 0 57600) (Ok (call.Time 57600))
+    ∷ reads (message "S" unused unused 0 0 2000 0) (Ok (call.Sale 2000))
+    ∷ reads (message "Q" unused unused 0 0 1999 2001) (Ok (call.Quote (quote 1999 2001)))
+    ∷ reads (message "E" "M" "B" 0 1 0 1000) (Ok (entry 1 (unmarked MarketOnClose Buy 0 1000)))
+    ∷ reads (message "X" unused unused 0 9 0 0) (Ok (call.Cancel 9 false))
+    ∷ reads (message "R" unused unused 0 3 0 350) (Ok (call.Reduction 3 350 false))
+    ∷ reads (message "P" unused unused 0 0 0 0) (Ok (call.Publication false))
+    ∷ reads (message "C" unused unused 0 0 2002 0) (Ok (call.Close 2002))
+    -- entries of the other kinds
+    ∷ reads (message "E" "C" "S" 0 2 0 300) (Ok (entry 2 (unmarked Crowd Sell 0 300)))
+    ∷ reads (message "E" "L" "S" 0 3 2002 500) (Ok (entry 3 (unmarked LimitOnClose Sell 2002 500)))
+    ∷ reads (message "E" "B" "B" 0 4 1500 200) (Ok (entry 4 (unmarked Book Buy 1500 200)))
+    ∷ reads (message "E" "D" "B" 0 5 1500 200) (Ok (entry 5 (unmarked MarketMaker Buy 1500 200)))
+    ∷ reads (message "E" "O" "S" 0 6 2002 400) (Ok (entry 6 (unmarked ClosingOffset Sell 2002 400)))
+    ∷ reads (message "E" "G" "S" 0 7 0 100) (Ok (entry 7 (unmarked Yielding Sell 0 100)))
+    ∷ reads (message "E" "S" "B" 0 8 1510 100) (Ok (entry 8 (unmarked Stop Buy 1510 100)))
+    -- flag 1: an order has the mark, an order that goes off was entered in error, and an amount is significant
+    ∷ reads (message "E" "M" "S" 1 2 0 300) (Ok (entry 2 (marked MarketOnClose Sell 0 300)))
+    ∷ reads (message "X" unused unused 1 2 0 0) (Ok (call.Cancel 2 true))
+    ∷ reads (message "R" unused unused 1 3 0 350) (Ok (call.Reduction 3 350 true))
+    ∷ reads (message "P" unused unused 1 0 0 0) (Ok (call.Publication true))
+    -- numbers lie high byte first: 7 and 208 are 2000; the session asks for their limits, so that the largest reads too
+    ∷ reads (83 ∷ 0 ∷ 0 ∷ 0 ∷ 0 ∷ 0 ∷ 0 ∷ 0 ∷ 0 ∷ 0 ∷ 7 ∷ 208 ∷ 0 ∷ 0 ∷ 0 ∷ 0 ∷ []) (Ok (call.Sale 2000))
+    ∷ reads (69 ∷ 76 ∷ 83 ∷ 1 ∷ 0 ∷ 0 ∷ 0 ∷ 3 ∷ 0 ∷ 0 ∷ 7 ∷ 210 ∷ 0 ∷ 0 ∷ 1 ∷ 244 ∷ []) (Ok (entry 3 (marked LimitOnClose Sell 2002 500)))
+    ∷ reads (81 ∷ 0 ∷ 0 ∷ 0 ∷ 0 ∷ 0 ∷ 0 ∷ 0 ∷ 1 ∷ 2 ∷ 3 ∷ 4 ∷ 5 ∷ 6 ∷ 7 ∷ 8 ∷ []) (Ok (call.Quote (quote 16909060 84281096)))
+    ∷ reads (88 ∷ 0 ∷ 0 ∷ 1 ∷ 255 ∷ 255 ∷ 255 ∷ 255 ∷ 0 ∷ 0 ∷ 0 ∷ 0 ∷ 0 ∷ 0 ∷ 0 ∷ 0 ∷ []) (Ok (call.Cancel 4294967295 true))
+    -- a verb that is not known: another letter, a small one, and 0
+    ∷ reads (message "Z" unused unused 0 0 0 0) (Err UnknownVerb)
+    ∷ reads (message "s" unused unused 0 0 2000 0) (Err UnknownVerb)
+    ∷ reads (replicate 16 0) (Err UnknownVerb)
+    -- a kind, a side and a flag that are not legal
+    ∷ reads (message "E" "X" "B" 0 1 0 1000) (Err Illegal)
+    ∷ reads (message "E" "M" "M" 0 1 0 1000) (Err Illegal)
+    ∷ reads (message "E" "M" "B" 2 1 0 1000) (Err Illegal)
+    ∷ reads (message "E" unused unused 0 1 0 1000) (Err Illegal)
+    ∷ reads (message "X" unused unused 2 9 0 0) (Err Illegal)
+    ∷ reads (message "R" unused unused 255 3 0 350) (Err Illegal)
+    ∷ reads (message "P" unused unused 2 0 0 0) (Err Illegal)
+    -- an unused byte that is not 0: a flag of a verb that has none is one too
+    ∷ reads (message "T" "M" unused 0 0 0 57600) (Err NotZero)
+    ∷ reads (message "S" unused "B" 0 0 2000 0) (Err NotZero)
+    ∷ reads (message "C" unused unused 1 0 2002 0) (Err NotZero)
+    ∷ reads (message "Q" unused unused 0 1 1999 2001) (Err NotZero)
+    ∷ reads (message "X" unused unused 0 9 1 0) (Err NotZero)
+    ∷ reads (message "R" unused unused 0 3 2000 350) (Err NotZero)
+    ∷ reads (message "P" unused unused 0 0 0 1) (Err NotZero)
+    -- the verb is asked for first (4), then kind, side and flag (5), and then the unused bytes (6)
+    ∷ reads (message "Z" "X" "X" 2 1 1 1) (Err UnknownVerb)
+    ∷ reads (message "X" unused unused 2 9 2000 0) (Err Illegal)
+    ∷ reads (message "P" "M" "B" 2 1 1 1) (Err Illegal)
+    -- lines of each letter
+    ∷ has_text (Lot 1) (codes "U 1\n")
+    ∷ has_text (line.Notice 5 (pos 60000) 1500) (codes "N 5 60000 1500\n")
+    ∷ has_text (line.Print 2002 1000) (codes "P 2002 1000\n")
+    ∷ has_text (Fill 1 Buy 1000 0) (codes "F 1 B 1000 0\n")
+    ∷ has_text (Fill 4 Sell 200 200) (codes "F 4 S 200 200\n")
+    ∷ has_text (Refusal 7 (file.Message (message_fault.Session Unlisted))) (codes "R 7 3 10\n")
+    -- refusals of the other layers: a header, which is message 0, a message that is cut, and one that does not read
+    ∷ has_text (Refusal 0 NoMark) (codes "R 0 1 1\n")
+    ∷ has_text (Refusal 1 NoMessage) (codes "R 1 1 3\n")
+    ∷ has_text (Refusal 1 (file.Message NotZero)) (codes "R 1 2 6\n")
+    -- a negative amount, and the longest line, of 45 bytes
+    ∷ has_text (line.Notice 4 (neg_ℤ (pos 60000)) 1502) (codes "N 4 -60000 1502\n")
+    ∷ has_text (line.Notice 4294967295 (neg_ℤ (pos 9223372036854775808)) 4294967295) (codes "N 4294967295 -9223372036854775808 4294967295\n")
+    -- tapes: of a close at a second price after the first is unfillable
+    ∷ has_tape_by_arrival sample_file (codes "U 1\nR 7 3 10\nR 9 3 21\nP 2002 1000\nF 1 B 1000 0\nF 2 S 300 0\nF 3 S 500 0\nF 4 S 200 200\n")
+    ∷ has_tape_by_turns sample_file (codes "U 100\nR 7 3 10\nR 9 3 21\nP 2002 1000\nF 1 B 1000 0\nF 2 S 300 0\nF 3 S 500 0\nF 4 S 200 200\n")
+    -- with a class that is cut, shared by both methods
+    ∷ has_tape_by_arrival cut_file (codes "U 1\nP 1500 250\nF 1 B 250 0\nF 2 S 250 50\nF 3 S 0 50\nF 4 S 0 200\n")
+    ∷ has_tape_by_turns cut_file (codes "U 100\nP 1500 250\nF 1 B 250 0\nF 2 S 100 200\nF 3 S 50 0\nF 4 S 100 100\n")
+    -- with orders that go off, and with notices, to buy and to sell
+    ∷ has_tape_by_arrival changed_file (codes "U 1\nP 1500 500\nF 1 B 500 0\nF 3 S 350 0\nF 4 S 150 50\n")
+    ∷ has_tape_by_arrival noticed_file (codes "U 1\nR 4 3 12\nN 5 60000 1500\nR 7 3 12\nP 1500 60000\nF 1 B 60000 0\nF 2 S 60000 0\n")
+    ∷ has_tape_by_arrival quoted_file (codes "U 1\nN 4 -60000 1502\n")
+    -- without a close, and after a close, where each call is refused as done
+    ∷ has_tape_by_arrival lone_file (codes "U 1\nR 4 3 21\n")
+    ∷ has_tape_by_arrival done_file (codes "U 1\nP 1500 0\nR 4 3 7\nR 5 3 7\nR 6 2 4\n")
+    -- a refused message does not end the tape; one has no place left for its order
+    ∷ has_tape_by_arrival refused_file (codes "U 1\nR 1 2 4\nR 4 2 5\nR 5 2 6\nR 6 3 8\nP 1500 100\nF 1 B 100 0\nF 2 S 100 0\n")
+    ∷ has_tape_by_arrival full_file (codes "U 1\nR 7 3 14\n")
+    -- a message that is cut ends it
+    ∷ has_tape_by_arrival short_file (codes "U 1\nR 1 1 3\n")
+    ∷ has_tape_by_turns unclosed_file (codes "U 100\nR 3 1 3\n")
+    -- headers: a good one alone, no bytes, a mark that is cut or wrong, and a byte before it
+    ∷ has_tape_by_arrival (codes "CLO" ++ 0 ∷ 1 ∷ []) (codes "U 1\n")
+    ∷ has_tape_by_turns (codes "CLO" ++ 0 ∷ 1 ∷ []) (codes "U 100\n")
+    ∷ has_tape_by_arrival [] (codes "R 0 1 1\n")
+    ∷ has_tape_by_arrival (codes "CL") (codes "R 0 1 1\n")
+    ∷ has_tape_by_turns (codes "CLo" ++ 0 ∷ 1 ∷ []) (codes "R 0 1 1\n")
+    ∷ has_tape_by_arrival (codes "X" ++ sample_file) (codes "R 0 1 1\n")
+    -- a mark alone, a version that is cut, and versions 2, with a message behind it, and 256
+    ∷ has_tape_by_arrival (codes "CLO") (codes "R 0 1 2\n")
+    ∷ has_tape_by_arrival (codes "CLO" ++ 0 ∷ []) (codes "R 0 1 2\n")
+    ∷ has_tape_by_turns (codes "CLO" ++ 0 ∷ 2 ∷ sale 1500) (codes "R 0 1 2\n")
+    ∷ has_tape_by_arrival (codes "CLO" ++ 1 ∷ 0 ∷ []) (codes "R 0 1 2\n")
     -- one amount shared by both methods
     ∷ shared_by_turns 250 (300 ∷ 50 ∷ 200 ∷ []) (100 ∷ 50 ∷ 100 ∷ [])
     ∷ shared_by_arrival 250 (300 ∷ 50 ∷ 200 ∷ []) (250 ∷ 0 ∷ 0 ∷ [])

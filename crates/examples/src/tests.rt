@@ -1,11 +1,12 @@
-// The code run on examples: reference prices, imbalances, refusals, a row that fails its check, and a whole life.
+// The code run on examples: reference prices, imbalances, refusals, a row that fails its check, a whole life, and a file with its tapes.
 use book::{FillFault, fill, imbalance_at};
 use life::{TooFewPlaces, live};
 use list::List;
 use order::{Kind, Quote, Row, Sale, Side, Terms, Tick, Ticket, reference_price};
 use session::{Call, Notice, Outcome, Print, SessionFault};
-use sharing::ByArrival;
+use sharing::{ByArrival, ByTurns};
 use std::test::Fail;
+use tape::play_file;
 
 const TERMS: Terms = Terms {
     price: 1500,
@@ -156,4 +157,79 @@ fn whole_life(rt: HostRuntime) {
     for (row, filled) in orders.elements().iter().zip([1000, 300, 500, 200]) {
         assert_eq!(rt; row.filled, filled);
     }
+}
+
+// The sample file of the table: the letters of each message, its flag, and its number, price and quantity.
+const SAMPLE: [(&[u8; 3], u8, [u32; 3]); 10] = [
+    (b"S\0\0", 0, [0, 1999, 0]),
+    (b"S\0\0", 0, [0, 2000, 0]),
+    (b"EMB", 0, [1, 0, 1000]),
+    (b"EMS", 1, [2, 0, 300]),
+    (b"ELS", 0, [3, 2002, 500]),
+    (b"EOS", 0, [4, 2002, 400]),
+    (b"X\0\0", 0, [9, 0, 0]),
+    (b"T\0\0", 0, [0, 0, 57_600]),
+    (b"C\0\0", 0, [0, 2001, 0]),
+    (b"C\0\0", 0, [0, 2002, 0]),
+];
+
+// Its tapes, one after another: by arrival, and by turns.
+const TAPES: &str = "U 1
+R 7 3 10
+R 9 3 21
+P 2002 1000
+F 1 B 1000 0
+F 2 S 300 0
+F 3 S 500 0
+F 4 S 200 200
+U 100
+R 7 3 10
+R 9 3 21
+P 2002 1000
+F 1 B 1000 0
+F 2 S 300 0
+F 3 S 500 0
+F 4 S 200 200
+";
+
+#[test]
+fn tapes(rt: HostRuntime) -> Result<(), Fail> {
+    let mut file = Vec::new(rt.alloc());
+    file.extend_from_slice(b"CLO\0\x01")?;
+    for (letters, flag, numbers) in SAMPLE {
+        file.extend_from_slice(letters)?;
+        file.push(flag)?;
+        for number in numbers {
+            file.extend_from_slice(&number.to_be_bytes())?;
+        }
+    }
+    let mut places = [Row::unfilled(0, Kind::Crowd, Side::Buy, false, 0, 0); 6];
+    let mut notices = [Notice {
+        amount: 0,
+        reference: 0,
+        mandatory: false,
+    }; 6];
+    let mut claims = [0; 6];
+    let mut gifts = [0; 6];
+    let mut out = Vec::new(rt.alloc());
+    play_file(
+        &mut places,
+        &mut notices,
+        &mut claims,
+        &mut gifts,
+        ByArrival,
+        &file,
+        &mut out,
+    )?;
+    play_file(
+        &mut places,
+        &mut notices,
+        &mut claims,
+        &mut gifts,
+        ByTurns,
+        &file,
+        &mut out,
+    )?;
+    assert!(rt; out.as_slice() == TAPES.as_bytes());
+    Ok(())
 }
