@@ -1,6 +1,8 @@
 // What the programs that play a file share: calls come on standard input, and the tape goes to standard output as its lines become due.
 #![tactic(auto)]
 
+ghost use Rattle.std.specs.Prelude.{◌≡◌, [], OnOk};
+
 mod places;
 mod trouble;
 
@@ -83,8 +85,10 @@ fn play_pieces<R: AllocGlobal + Print + Input, S: Sharing + Drop>(
     Ok(())
 }
 
-/// Writes the lines to standard output.
-fn write_out(rt: &impl Print, lines: &mut Vec<u8>) -> io::Result<()> {
+/// Writes the lines to standard output, and forgets them, so that none is written twice.
+fn write_out(rt: &impl Print, lines: &mut Vec<u8>) -> io::Result<()>
+    ensures forgotten { OnOk result (lines.new.items ≡ []) }
+{
     let mut output = io::writer(rt);
     output.write_all(lines)?;
     output.flush()?;

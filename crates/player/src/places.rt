@@ -1,5 +1,5 @@
 // The places of a session's lists.
-ghost use Rattle.std.specs.Prelude.{◌≡◌, List, ℕ};
+ghost use Rattle.std.specs.Prelude.{◌≡◌, List, ℕ, length};
 ghost use Rattle.tape.specs.Runs.{stage_on, standing_of};
 ghost use Rattle.tape.specs.Standing.{at_start, WritesTape};
 ghost use Rattle.tape.specs.Tapes.{lines_of_file};
@@ -27,7 +27,11 @@ pub struct Places {
 
 impl Places {
     /// Makes the places.
-    pub fn new() -> Places {
+    pub fn new() -> Places
+        ensures orders { length result.orders ≡ 1024 }
+        ensures notices { length result.notices ≡ 64 }
+        ensures work { (length result.claims ≡ 1024) × (length result.gifts ≡ 1024) }
+    {
         Places {
             orders: [Row::unfilled(0, Kind::Crowd, Side::Buy, false, 0, 0); ORDERS],
             notices: [Notice {
