@@ -7,7 +7,7 @@ use Rattle.order.specs.Classes.{rank_of}
 use Rattle.order.specs.Kinds.{is, facing}
 use Rattle.book.specs.declared.entry.Entry.{Entry}
 
--- how many classes come first and must execute whole: class 0 alone. The next is that of orders on the book at the price
+-- how many classes come first and must execute whole: class 0 alone. Class 1 is the first that need not be filled
 unfoldable pub must_execute : ℕ
 must_execute = rank_of BookAt
 
@@ -47,14 +47,27 @@ weight es s = first es s open_to_both
 abbrev pub lighter : List Entry → Side → Bool
 lighter es s = nat_lt (weight es s) (weight es (facing s))
 
--- how many classes are open to a side: 0 to 5, and 6 too on the lighter side
+-- how many classes are open to a side of this W, where the other side has that: 0 to 5, and 6 too where it is the lighter
+abbrev pub open_where : ℕ → ℕ → ℕ
+open_where own other = (if nat_lt own other then suc open_to_both else open_to_both)
+
+-- how many classes are open to a side of a list
 abbrev pub open_to : List Entry → Side → ℕ
-open_to es s = (if lighter es s then suc open_to_both else open_to_both)
+open_to es s = open_where (weight es s) (weight es (facing s))
 
 -- eligible: in a class that is open to its side
 abbrev pub eligible : List Entry → Entry → Bool
 eligible es e = among (open_to es e.side) e.rank
 
--- whether an entry of a list of these W to buy and to sell is eligible
+-- how many classes are open to a side by the W to buy and to sell
+abbrev pub open_by : ℕ × ℕ → Side → ℕ
+open_by (buy, sell) Buy = open_where buy sell
+open_by (buy, sell) Sell = open_where sell buy
+
+-- eligible by the W to buy and to sell
+abbrev pub eligible_by : ℕ × ℕ → Entry → Bool
+eligible_by weights e = among (open_by weights e.side) e.rank
+
+-- this is whether an entry is eligible, in every list of these W to buy and to sell
 abbrev pub EligibleBy : ℕ × ℕ → Entry → Bool → Type 0
 EligibleBy weights e b = (es : List Entry) → weights ≡ (weight es Buy, weight es Sell) → b ≡ eligible es e

@@ -1,7 +1,7 @@
 // A row as an order at a price.
 ghost use Rattle.std.specs.Prelude.{◌≡◌, suc, ◌≤◌, if◌then◌else◌, nat_lt};
 ghost use Rattle.book.specs.Entries.{entered};
-ghost use Rattle.book.specs.Weight.{open_to_both, EligibleBy};
+ghost use Rattle.book.specs.Weight.{open_where, eligible_by, EligibleBy};
 
 use order::{Class, Order, Row, Side, Terms};
 
@@ -21,7 +21,7 @@ pub struct Entry {
 }
 
 impl Entry {
-    /// The order in `row` on these terms. A row that fails its check has no rank.
+    /// The order in `row` on these terms: its side, its size, and the rank of its class. A row that is in no class, or fails its check, has no rank.
     pub fn at(row: Row, terms: Terms) -> Entry
         ensures value { result ≡ entered terms row }
     {
@@ -35,7 +35,8 @@ impl Entry {
 
     /// Whether the entry is eligible, where the W to buy and to sell of its list are these.
     pub fn is_eligible(self, weights: (u64, u64)) -> bool
-        ensures value { EligibleBy weights self result }
+        ensures value { result ≡ eligible_by weights self }
+        ensures rule { EligibleBy weights self result }
     {
         let (buy, sell) = weights;
         let open = match self.side {
@@ -50,7 +51,7 @@ impl Entry {
 // `within` is there since totals are asked for at most seven classes. A type for such numbers would be no plainer: two functions ask it.
 #[tactic(auto, unfolding(crate::specs::Weight::open_to_both))]
 pub(crate) fn open_to(own: u64, facing: u64) -> usize
-    ensures value { result ≡ (if nat_lt own facing then suc open_to_both else open_to_both) }
+    ensures value { result ≡ open_where own facing }
     ensures within { result ≤ 7 }
 {
     if own < facing { CLASSES } else { OPEN_TO_BOTH }

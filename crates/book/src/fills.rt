@@ -39,12 +39,15 @@ impl FillFault {
     }
 }
 
+/// The ground of the refusal, in words.
 // By hand: a derived text has no contract.
 impl fmt::Display for FillFault {
     ghost use Rattle.std.specs.Prelude.{Some};
     ghost use Rattle.book.specs.Texts.{fault_text};
 
     ghost output = { λ fault. Some (fault_text fault) };
+
+    ghost styled_output = { λ fault _. Some (fault_text fault) };
 
     fn fmt<W: fmt::Write>(&self, f: &mut fmt::Formatter<W>) -> fmt::Result {
         match self {
@@ -57,6 +60,7 @@ impl fmt::Display for FillFault {
 
 impl Error for FillFault {}
 
+/// The refusal of the same name.
 // Both conversions are by hand: a clause names the fault, and a derived one has no contract.
 impl From<Unfillable> for FillFault {
     ghost from_gives = { λ _ r. r ≡ ForUnfillable };
@@ -66,6 +70,7 @@ impl From<Unfillable> for FillFault {
     }
 }
 
+/// The refusal of the same name.
 impl From<Unequal> for FillFault {
     ghost from_gives = { λ _ r. r ≡ ForUnequal };
 
@@ -74,9 +79,10 @@ impl From<Unequal> for FillFault {
     }
 }
 
-/// Fills the orders on these terms, each side class by class, and answers the volume. The method is asked once, for the
-/// class that gets some but not all. `claims` and `gifts` then hold one entry for each row, and each order its filled shares; rows that
-/// fail their check have claim 0 and stay as they are.
+/// Fills the orders on these terms, each side class by class, and answers the volume. The method is asked once, for the class that gets some
+/// but not all. Each order then has its filled shares. `claims` hold the sizes of the orders in that class and 0 for every other row, `gifts`
+/// what the method gives them of what is left, and later places of both what they held. Rows that fail their check have claim 0 and stay as
+/// they are.
 ///
 /// Refuses, and changes nothing, when a work list has fewer places than the list has rows (20), or when no division of the shares fills
 /// every order that must execute (21). The method never refuses (22).

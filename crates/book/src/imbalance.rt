@@ -11,7 +11,9 @@ use order::{Kind, Order, Row, Side, Standing, Terms};
 /// Sizes are counted in hundreds.
 const ROUND_LOT: u32 = 100;
 
-/// The imbalance on terms whose price is the reference price, in shares: positive to buy, negative to sell.
+/// The imbalance on terms whose price is the reference price, in shares: positive to buy, negative to sell. It is the aggregate to buy less that
+/// to sell, of unmarked M and better unmarked L, brought towards 0, and never past it, by the other M and L of the smaller side that are
+/// eligible. Each size is cut down to whole hundreds first. Rows that fail their check count for nothing.
 pub fn imbalance_at(rows: &List<Row>, terms: Terms) -> i64
     ensures value { result ≡ amount_of (kept rows.now) terms }
 {

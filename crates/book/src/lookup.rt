@@ -7,7 +7,7 @@ ghost use Rattle.book.specs.Listing.{place_of};
 use list::List;
 use order::{Order, Row};
 
-/// The place of the first order of this number, or none. Rows that fail their check are passed over.
+/// The place of the first order of this number, counted from 0, or none. Rows that fail their check are passed over.
 pub fn find(rows: &List<Row>, number: u32) -> Option<usize>
     ensures value { result ≡ place_of number (kept rows.now) }
     ensures within { IfSome result (λ place. place < held rows.now) }

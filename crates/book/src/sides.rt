@@ -12,12 +12,15 @@ use std::fmt;
 #[derive(Clone, Copy, PartialEq, Eq, Debug)]
 pub struct Unfillable;
 
+/// The ground of the refusal, in words.
 // By hand: a derived text has no contract.
 impl fmt::Display for Unfillable {
     ghost use Rattle.std.specs.Prelude.{Some};
     ghost use Rattle.book.specs.Texts.{unfillable_text};
 
     ghost output = { λ _. Some unfillable_text };
+
+    ghost styled_output = { λ _ _. Some unfillable_text };
 
     fn fmt<W: fmt::Write>(&self, f: &mut fmt::Formatter<W>) -> fmt::Result {
         f.write_str("unfillable: no division of the shares fills every order that must execute")

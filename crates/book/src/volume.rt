@@ -26,8 +26,8 @@ pub fn weights(rows: &List<Row>, terms: Terms) -> (u64, u64)
     (buy, sell)
 }
 
-/// The plan on these terms: how much trades there, and how far each side is filled. Refuses when no division of the shares
-/// fills every order that must execute.
+/// The plan on these terms: how much trades there, and how far each side is filled. Refuses when no division of the shares fills every order
+/// that must execute (21).
 pub fn plan(rows: &List<Row>, terms: Terms) -> Result<Plan, Unfillable>
     ensures value { result ≡ plan_at (orders_at rows.now terms) }
     ensures largest { MatchResult result (λ found. Largest (orders_at rows.now terms) found.volume) (λ _. NoAssignment (orders_at rows.now terms)) }

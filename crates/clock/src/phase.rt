@@ -33,7 +33,7 @@ impl Phase {
         self as u32
     }
 
-    /// The phase at `time`.
+    /// The phase at `time`. From 16:00 on it is the last, whatever the number.
     pub fn at(time: u32) -> Phase
         ensures value { result ≡ phase_at time }
     {

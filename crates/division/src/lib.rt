@@ -41,6 +41,7 @@ pub enum Fault {
     Memory,
 }
 
+/// The ground of the refusal, in words.
 // By hand: a derived text has no contract.
 impl fmt::Display for Fault {
     ghost output = { λ f. Some (fault_text f) };
@@ -63,6 +64,7 @@ impl fmt::Display for Fault {
 
 impl Error for Fault {}
 
+/// Memory is wanting.
 // Both conversions are by hand: a clause names the fault, and a derived one has no contract. They are two, as `std` has two errors of memory.
 impl From<AllocError> for Fault {
     ghost from_gives = { λ _ r. r ≡ OfMemory };
@@ -72,6 +74,7 @@ impl From<AllocError> for Fault {
     }
 }
 
+/// Memory is wanting.
 impl<T: Drop> From<AllocFailed<T>> for Fault {
     ghost from_gives = { λ _ r. r ≡ OfMemory };
 
@@ -80,7 +83,7 @@ impl<T: Drop> From<AllocFailed<T>> for Fault {
     }
 }
 
-/// Answers a text: the table of the task that it asks, or why it asks none.
+/// Answers a text: the table of the task that it asks, or the fault on account of which it asks none, or that memory is wanting.
 pub fn divided(heap: Global, text: &[u8]) -> Result<String, Fault>
     ensures { Answers (answer_of text.now) string_bytes result }
 {
@@ -89,7 +92,8 @@ pub fn divided(heap: Global, text: &[u8]) -> Result<String, Fault>
 }
 
 /// Reads a task from the words of a text: the amount, at most 2^64 - 1, and then one claim or more, each at most 2^32 - 1.
-/// Names the first word that is no number or is too large; where every word is good, says that the amount or the claims are missing.
+/// Names the first word that is no number or is too large; where every word is good, says that the amount or the claims are missing. Or says
+/// that memory is wanting.
 pub fn read_task(heap: Global, text: &[u8]) -> Result<Task, Fault>
     ensures { Answers (task_of text.now) asked result }
 {
@@ -107,7 +111,8 @@ pub fn read_task(heap: Global, text: &[u8]) -> Result<Task, Fault>
     Ok(Task { amount, claims })
 }
 
-/// The table of a task: a line for each claimant with its claim and its gifts, by arrival and by turns, and the sums.
+/// The table of a task: a line for each claimant with its claim and its gifts, by arrival and by turns, and the sums. Or says that memory is
+/// wanting.
 pub fn table(heap: Global, task: &Task) -> Result<String, AllocError>
     ensures { IfOk result (λ s. string_bytes s ≡ table_of (asked task.now)) }
 {

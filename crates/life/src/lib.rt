@@ -18,9 +18,12 @@ use std::fmt;
 #[derive(Clone, Copy, PartialEq, Eq, Debug)]
 pub struct TooFewPlaces;
 
+/// The ground of the refusal, in words.
 // By hand: a derived text has no contract.
 impl fmt::Display for TooFewPlaces {
     ghost output = { λ _. Some too_few_places_text };
+
+    ghost styled_output = { λ _ _. Some too_few_places_text };
 
     fn fmt<W: fmt::Write>(&self, f: &mut fmt::Formatter<W>) -> fmt::Result {
         f.write_str("there are fewer places for answers than calls")
@@ -30,7 +33,8 @@ impl fmt::Display for TooFewPlaces {
 impl Error for TooFewPlaces {}
 
 /// Lives a whole life: opens a session on the two lists, which are then empty, and applies the calls in their order. Each answer is written at
-/// the place of its call; later places keep what they held. Returns the session at the end.
+/// the place of its call; later places keep what they held. Lists and work lists then hold what the calls, one after another, have left.
+/// Returns the session at the end.
 ///
 /// Refuses, and changes nothing, when there are fewer places for answers than calls.
 pub fn live<S: Sharing>(

@@ -8,7 +8,7 @@ ghost use Rattle.list.specs.Held.{room, held, kept, full, no_place, no_element, 
 
 mod places;
 
-use places::close_gap;
+use places::{close_gap, write};
 use std::error::Error;
 use std::fmt;
 
@@ -19,12 +19,15 @@ pub const MOST: usize = 4096;
 #[derive(Clone, Copy, PartialEq, Eq, Debug)]
 pub struct Full;
 
+/// The ground of the refusal, in words.
 // By hand: a derived text has no contract.
 impl fmt::Display for Full {
     ghost output = { λ _. Some no_place_text };
 
+    ghost styled_output = { λ _ _. Some no_place_text };
+
     fn fmt<W: fmt::Write>(&self, f: &mut fmt::Formatter<W>) -> fmt::Result {
-        write!(f, "no place is left")
+        f.write_str("no place is left")
     }
 }
 
@@ -34,11 +37,14 @@ impl Error for Full {}
 #[derive(Clone, Copy, PartialEq, Eq, Debug)]
 pub struct Absent;
 
+/// The ground of the refusal, in words.
 impl fmt::Display for Absent {
     ghost output = { λ _. Some no_element_text };
 
+    ghost styled_output = { λ _ _. Some no_element_text };
+
     fn fmt<W: fmt::Write>(&self, f: &mut fmt::Formatter<W>) -> fmt::Result {
-        write!(f, "there is no element at that place")
+        f.write_str("there is no element at that place")
     }
 }
 
@@ -46,7 +52,7 @@ impl Error for Absent {}
 
 /// Elements in order of arrival, in places that are lent. Whatever its count says, a list holds no more elements than it has
 /// places, and at most 4,096.
-// A lent slice with a count, which `len` bounds (docs/DECISIONS.md, "Forms that are fixed"): of a type with an invariant no equation could say
+// A lent slice with a count, which `len` bounds (docs/DECISIONS.md, "Forms that are fixed"): of a type with a ghost field no equation could say
 // the whole list after a call. No `Debug`, which would print places that hold no element.
 #[derive(Drop)]
 pub struct List<'a, T> {
@@ -63,7 +69,7 @@ impl<'a, T: Copy> List<'a, T> {
         List { places, count: 0 }
     }
 
-    /// How many elements the list holds.
+    /// How many elements the list holds: never more than it has places, nor than 4,096.
     pub fn len(&self) -> usize
         ensures value { result ≡ held self.now }
     {
@@ -77,7 +83,7 @@ impl<'a, T: Copy> List<'a, T> {
         self.len() == 0
     }
 
-    /// How many elements the list can hold.
+    /// How many elements the list can hold: as many as it has places, and at most 4,096.
     pub fn capacity(&self) -> usize
         ensures value { result ≡ room self.now }
     {
@@ -108,7 +114,7 @@ impl<'a, T: Copy> List<'a, T> {
         self.elements().get(place).copied()
     }
 
-    /// Appends `element` at the end. Refuses, and changes nothing, when no place is left.
+    /// Appends `element` at the end, in the first free place; no other place changes. Refuses, and changes nothing, when no place is left.
     pub fn push(&mut self, element: T) -> Result<(), Full>
         ensures value { result ≡ (if full self.old then Err no_place else Ok tt) }
         ensures after { self.new ≡ (if full self.old then self.old else appended self.old element) }
@@ -118,12 +124,12 @@ impl<'a, T: Copy> List<'a, T> {
             return Err(Full);
         }
         let held = self.len();
-        self.places[held] = element;
+        write(self.places, held, element);
         self.count = held + 1;
         Ok(())
     }
 
-    /// Writes the element at `place` back whole. Refuses, and changes nothing, when there is none.
+    /// Writes the element at `place` back whole; no other place changes. Refuses, and changes nothing, when there is none.
     pub fn put(&mut self, place: usize, element: T) -> Result<(), Absent>
         ensures value { result ≡ (if nat_lt place (held self.old) then Ok tt else Err no_element) }
         ensures after { self.new ≡ (if nat_lt place (held self.old) then written self.old place element else self.old) }
@@ -133,12 +139,12 @@ impl<'a, T: Copy> List<'a, T> {
         if place >= held {
             return Err(Absent);
         }
-        self.places[place] = element;
+        write(self.places, place, element);
         Ok(())
     }
 
-    /// Takes the element at `place` out and moves the later ones down by one. The place that is freed keeps what it held.
-    /// Refuses, and changes nothing, when there is no such element.
+    /// Takes the element at `place` out, answers it, and moves the later ones down by one. The place that is freed keeps what it held, and so do
+    /// those after it. Refuses, and changes nothing, when there is no such element.
     pub fn remove(&mut self, place: usize) -> Result<T, Absent>
         ensures value { result ≡ ok_or (slice_get (kept self.old) place) no_element }
         ensures after { self.new ≡ (if nat_lt place (held self.old) then without self.old place else self.old) }

@@ -40,7 +40,7 @@ pub enum MessageFault {
 }
 
 impl MessageFault {
-    /// The number of the question that is answered no.
+    /// The number of the question that is answered no; where the session's refusal is carried, that one's.
     pub fn question(self) -> u8
         ensures value { result ≡ message_question self }
     {
@@ -52,7 +52,7 @@ impl MessageFault {
         }
     }
 
-    /// The layer that puts it.
+    /// The layer that puts it: the session, where its refusal is carried.
     pub fn layer(self) -> Layer
         ensures value { result ≡ message_layer self }
     {
@@ -65,12 +65,15 @@ impl MessageFault {
     }
 }
 
+/// The ground of the refusal, in words.
 // By hand: a derived text has no contract.
 impl fmt::Display for MessageFault {
     ghost use Rattle.std.specs.Prelude.{Some};
     ghost use Rattle.message.specs.Texts.{message_text};
 
     ghost output = { λ fault. Some (message_text fault) };
+
+    ghost styled_output = { λ fault _. Some (message_text fault) };
 
     fn fmt<W: fmt::Write>(&self, f: &mut fmt::Formatter<W>) -> fmt::Result {
         f.write_str(match self {
@@ -84,6 +87,7 @@ impl fmt::Display for MessageFault {
 
 impl Error for MessageFault {}
 
+/// The session's refusal, carried whole.
 // By hand: a clause names the fault, and a derived conversion has no contract.
 impl From<SessionFault> for MessageFault {
     ghost use Rattle.message.specs.declared.fault.MessageFault.TheVariants.{Session as OfSession};
@@ -109,7 +113,7 @@ pub enum FileFault {
 }
 
 impl FileFault {
-    /// The number of the question that is answered no.
+    /// The number of the question that is answered no; where a message's refusal is carried, that one's.
     pub fn question(self) -> u8
         ensures value { result ≡ file_question self }
     {
@@ -121,7 +125,7 @@ impl FileFault {
         }
     }
 
-    /// The layer that puts it.
+    /// The layer that puts it; where a message's refusal is carried, that one's.
     pub fn layer(self) -> Layer
         ensures value { result ≡ file_layer self }
     {
@@ -132,11 +136,14 @@ impl FileFault {
     }
 }
 
+/// The ground of the refusal, in words.
 impl fmt::Display for FileFault {
     ghost use Rattle.std.specs.Prelude.{Some};
     ghost use Rattle.message.specs.Texts.{file_text};
 
     ghost output = { λ fault. Some (file_text fault) };
+
+    ghost styled_output = { λ fault _. Some (file_text fault) };
 
     fn fmt<W: fmt::Write>(&self, f: &mut fmt::Formatter<W>) -> fmt::Result {
         f.write_str(match self {
@@ -150,6 +157,7 @@ impl fmt::Display for FileFault {
 
 impl Error for FileFault {}
 
+/// The message's refusal, carried whole.
 impl From<MessageFault> for FileFault {
     ghost use Rattle.message.specs.declared.fault.FileFault.TheVariants.{Message as OfMessage};
 

@@ -1,5 +1,6 @@
 // The kinds and sides of orders, the limits of prices, sizes and order numbers, and a plain row.
 ghost use Rattle.std.specs.Prelude.{◌≡◌, [], ◌∷◌, Some};
+ghost use Rattle.std.specs.Fmt.{styled_text};
 ghost use Rattle.order.specs.Kinds.{kind_letter, side_letter, is_price, is_size, is_number, priced, on_close, marks};
 ghost use Rattle.order.specs.Entered.{unfilled_row};
 ghost use Rattle.order.specs.Rows.{resized};
@@ -125,7 +126,7 @@ impl Kind {
         }
     }
 
-    /// Whether the price field of an order of this kind may hold `price`.
+    /// Whether the price field of an order of this kind may hold `price`: 0 for M and C, a price for L, B, D, O and S, either for G.
     pub fn takes_price(self, price: u32) -> bool
         ensures value { result ≡ priced self price }
     {
@@ -140,7 +141,7 @@ impl Kind {
         }
     }
 
-    /// Whether an order of this kind may be marked so.
+    /// Whether an order of this kind may be marked so: any may be unmarked, and M and L marked.
     pub fn takes_mark(self, marked: bool) -> bool
         ensures value { result ≡ marks self marked }
     {
@@ -155,9 +156,12 @@ impl Kind {
     }
 }
 
+/// Its letter.
 // By hand: a derived text has no contract.
 impl fmt::Display for Kind {
     ghost output = { λ kind. Some (kind_letter kind ∷ []) };
+
+    ghost styled_output = { λ kind spec. Some (styled_text spec (kind_letter kind ∷ [])) };
 
     fn fmt<W: fmt::Write>(&self, f: &mut fmt::Formatter<W>) -> fmt::Result {
         let kind = char::from(self.letter());
@@ -178,8 +182,11 @@ impl Side {
     }
 }
 
+/// Its letter.
 impl fmt::Display for Side {
     ghost output = { λ side. Some (side_letter side ∷ []) };
+
+    ghost styled_output = { λ side spec. Some (styled_text spec (side_letter side ∷ [])) };
 
     fn fmt<W: fmt::Write>(&self, f: &mut fmt::Formatter<W>) -> fmt::Result {
         let side = char::from(self.letter());

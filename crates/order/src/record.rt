@@ -25,12 +25,15 @@ pub struct Order {
 #[derive(Clone, Copy, PartialEq, Eq, Debug)]
 pub struct Unsound;
 
+/// The ground of the refusal, in words.
 // By hand: a derived text has no contract.
 impl fmt::Display for Unsound {
     ghost use Rattle.std.specs.Prelude.{Some};
     ghost use Rattle.order.specs.Texts.{unsound_text};
 
     ghost output = { λ _. Some unsound_text };
+
+    ghost styled_output = { λ _ _. Some unsound_text };
 
     fn fmt<W: fmt::Write>(&self, f: &mut fmt::Formatter<W>) -> fmt::Result {
         f.write_str("size, filled shares, price or mark are not those of an order")
@@ -39,13 +42,14 @@ impl fmt::Display for Unsound {
 
 impl Error for Unsound {}
 
-/// The order that lies in a row. Refuses a row that fails the check.
+/// The order that lies in a row. Refuses a row that fails the check: whose size is outside its limits, whose filled shares exceed its size,
+/// or whose price or mark is not in keeping with its kind.
 impl TryFrom<Row> for Order {
     type Error = Unsound;
 
-    ghost use Rattle.order.specs.Rows.{MadeFrom};
+    ghost use Rattle.order.specs.Rows.{row_made, checked, MadeFrom};
 
-    ghost try_from_gives = { MadeFrom };
+    ghost try_from_gives = { λ row r. (row_made r ≡ checked row) × MadeFrom row r };
 
     fn try_from(row: Row) -> Result<Order, Unsound> {
         if is_size(row.size)
@@ -72,14 +76,14 @@ impl From<Order> for Row {
 }
 
 impl Order {
-    ghost use Rattle.std.specs.Prelude.{◌<◌, MatchOption};
+    ghost use Rattle.std.specs.Option.{option_map};
     ghost use Rattle.order.specs.Classes.{class_of};
     ghost use Rattle.order.specs.Limits.{standing_of};
-    ghost use Rattle.order.specs.Rows.{row_of, refilled};
+    ghost use Rattle.order.specs.Rows.{row_of, refilled_within};
 
     /// The same order with `filled` of its shares filled, or none where it has fewer.
     pub fn with_filled(self, filled: u32) -> Option<Order>
-        ensures cases { MatchOption result ((row_of self).size < filled) (λ order. (filled ≤ (row_of self).size) × (row_of order ≡ refilled (row_of self) filled)) }
+        ensures value { option_map row_of result ≡ refilled_within (row_of self) filled }
     {
         // An `if`: the closure of `then` would have to state the order's invariant once more, and `try_from` would check the whole row again.
         if filled <= self.row.size {
@@ -98,7 +102,8 @@ impl Order {
         standing_at(self.row, terms)
     }
 
-    /// The order's class on these terms, or none where it is in no class.
+    /// The order's class on these terms, or none where it is in no class. An O that is better or at has its class on either side; whether that
+    /// class is open to its side is asked of the list.
     pub fn class(&self, terms: Terms) -> Option<Class>
         ensures value { result ≡ class_of (row_of self.now) terms }
     {

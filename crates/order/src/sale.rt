@@ -14,9 +14,12 @@ pub enum Tick {
     Minus,
 }
 
+/// `plus` or `minus`.
 // By hand: a derived text has no contract.
 impl fmt::Display for Tick {
     ghost output = { λ tick. Some (tick_text tick) };
+
+    ghost styled_output = { λ tick _. Some (tick_text tick) };
 
     fn fmt<W: fmt::Write>(&self, f: &mut fmt::Formatter<W>) -> fmt::Result {
         f.write_str(match self {
@@ -59,7 +62,8 @@ fn is_quoted(price: u32) -> bool
     price == 0 || is_price(price)
 }
 
-/// The sale at `price`, after the one `before` or as the first.
+/// The sale at `price`, after the one `before` or as the first, with its tick: plus for the first and for one above the sale before, minus for
+/// one below it; an equal sale keeps the tick.
 pub fn next_sale(before: Option<Sale>, price: u32) -> Sale
     ensures value { result ≡ sale_after before price }
 {
@@ -67,6 +71,7 @@ pub fn next_sale(before: Option<Sale>, price: u32) -> Sale
     Sale { price, tick }
 }
 
+/// The tick of a sale at `price`.
 fn next_tick(before: Option<Sale>, price: u32) -> Tick
     ensures value { result ≡ tick_after before price }
 {
@@ -80,7 +85,8 @@ fn next_tick(before: Option<Sale>, price: u32) -> Tick
     }
 }
 
-/// The reference price: the last sale, but the bid if that is higher, and the offer if that is lower. A bid or an offer of 0 is absent.
+/// The reference price: the last sale, but the bid if that is higher, and the offer if that is lower. A bid or an offer of 0 is absent. Where
+/// the bid is higher and the offer lower, the bid counts.
 pub fn reference_price(last: u32, quote: Quote) -> u32
     ensures value { result ≡ reference last quote }
 {

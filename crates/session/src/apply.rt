@@ -16,8 +16,9 @@ use order::Row;
 use sharing::Sharing;
 
 impl Session {
-    /// Carries out a call, on the two lists of its life. A close has `method` share out the cut class, with `claims` and `gifts` as work
-    /// lists; no other call uses the three. Refuses, and changes nothing, when the call itself does.
+    /// Carries out a call, on the two lists of its life, and leaves session and lists as the call does. The answer is the notice of a
+    /// publication, the print of a close, and `Taken` for any other call. A close has `method` share out the cut class, and writes `claims` and
+    /// `gifts`; every other call leaves both as they were. Refuses, and changes nothing, when the call itself does, with its question (7 to 22).
     pub fn apply<S: Sharing>(
         &mut self,
         orders: &mut List<Row>,

@@ -52,12 +52,15 @@ impl SessionFault {
     }
 }
 
+/// The ground of the refusal, in words.
 // By hand: a derived text has no contract.
 impl fmt::Display for SessionFault {
     ghost use Rattle.std.specs.Prelude.{Some};
     ghost use Rattle.session.specs.Texts.{fault_text};
 
     ghost output = { λ fault. Some (fault_text fault) };
+
+    ghost styled_output = { λ fault _. Some (fault_text fault) };
 
     fn fmt<W: fmt::Write>(&self, f: &mut fmt::Formatter<W>) -> fmt::Result {
         f.write_str(match self {
@@ -87,6 +90,7 @@ impl fmt::Display for SessionFault {
 
 impl Error for SessionFault {}
 
+/// The refusal of the same name, with the same number.
 // By hand: a clause names the fault, and a derived conversion has no contract.
 impl From<FillFault> for SessionFault {
     ghost use Rattle.book.specs.Answers.{question_of as fill_question_of};

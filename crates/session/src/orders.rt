@@ -38,10 +38,10 @@ fn listed(orders: &List<Row>, number: u32) -> Result<Found, SessionFault>
 }
 
 impl Session {
-    /// Takes an order in, with no share filled, at the end of the list. Refuses, and changes nothing, when the session is done (7), a number
-    /// of the ticket is outside its limits or its price or mark is not in keeping with its kind (8), the clock does not allow it (11), it is an
-    /// M or L, it is 15:45 or later, and there is no mandatory notice for the other side (12), an order of its number is listed (13), or the
-    /// list has no place left (14).
+    /// Takes an order in, with no share filled, at the end of the list, in its first free place; no other place changes. Refuses, and changes
+    /// nothing, when the session is done (7), a number of the ticket is outside its limits or its price or mark is not in keeping with its kind
+    /// (8), the clock does not allow it (11), it is an M or L, it is 15:45 or later, and there is no mandatory notice for the other side (12), an
+    /// order of its number is listed (13), or the list has no place left (14).
     pub fn enter(
         &self,
         orders: &mut List<Row>,
@@ -73,7 +73,8 @@ impl Session {
         Ok(())
     }
 
-    /// Takes the first order of this number off the list; the later ones move down by one. Refuses, and changes nothing, when the session is
+    /// Takes the first order of this number off the list; the later ones move down by one, and the freed place and all after it keep what they
+    /// held. `in_error` says that the order was entered in error, which the clock asks. Refuses, and changes nothing, when the session is
     /// done (7), the number is outside its limits (8), no order of the number is listed (10), or the clock does not allow it (11).
     pub fn cancel(
         &self,
@@ -97,7 +98,8 @@ impl Session {
         Ok(())
     }
 
-    /// Gives the first order of this number a smaller size where it stands, with no share filled. Refuses, and changes nothing, when the session
+    /// Gives the first order of this number a smaller size where it stands, with no share filled; no other place changes. `in_error` says that
+    /// the order was entered in error, which the clock asks. Refuses, and changes nothing, when the session
     /// is done (7), the number or the size is outside its limits (8), no order of the number is listed (10), the clock does not allow it (11),
     /// or the size is not smaller (15).
     pub fn reduce(

@@ -42,9 +42,10 @@ impl Session {
         }
     }
 
-    /// Publishes the imbalance: the notice joins the list, and is the answer. Refuses, and changes nothing, when the session is done (7), the
-    /// clock does not allow it (11), there is no sale (16), it is 15:45 or later and there is a mandatory notice (17), the amount is 0 or, from
-    /// 15:45, below 50,000 either way and not flagged as significant (18), or the list has no place left (19).
+    /// Publishes the imbalance: the notice joins the list, in its first free place, and is the answer; no other place changes. It holds the
+    /// imbalance at the reference price, that price, and whether it is mandatory, which it is from 15:45 on. Refuses, and changes nothing, when
+    /// the session is done (7), the clock does not allow it (11), there is no sale (16), it is 15:45 or later and there is a mandatory notice
+    /// (17), the amount is 0 or, from 15:45, below 50,000 either way and not flagged as significant (18), or the list has no place left (19).
     pub fn publish(
         &self,
         orders: &List<Row>,

@@ -77,8 +77,8 @@ impl Session {
         ask(self.allowance(event).lets(), SessionFault::NotNow)
     }
 
-    /// Moves the clock. Refuses, and changes nothing, when the session is done (7), the time is outside its limits (8), or it is earlier than
-    /// the clock (9).
+    /// Moves the clock to `time`, which may be what it shows; nothing else changes. Refuses, and changes nothing, when the session is done (7),
+    /// the time is outside its limits (8), or it is earlier than the clock (9).
     pub fn set_time(&mut self, time: u32) -> Result<(), SessionFault>
         ensures value { result ≡ time_answer self.old time }
         ensures after { self.new ≡ if_accepted result (at_time self.old time) self.old }
@@ -93,8 +93,8 @@ impl Session {
         Ok(())
     }
 
-    /// Takes a sale. A first sale, or one above the last, is a plus tick, one below it a minus tick; an equal sale keeps the tick. Refuses,
-    /// and changes nothing, when the session is done (7), the price is outside its limits (8), or the clock does not allow it (11).
+    /// Takes a sale. A first sale, or one above the last, is a plus tick, one below it a minus tick; an equal sale keeps the tick. Nothing else
+    /// changes. Refuses, and changes nothing, when the session is done (7), the price is outside its limits (8), or the clock does not allow it (11).
     pub fn record_sale(&mut self, price: u32) -> Result<(), SessionFault>
         ensures value { result ≡ sale_answer self.old price }
         ensures after { self.new ≡ if_accepted result (after_sale self.old price) self.old }
@@ -109,8 +109,8 @@ impl Session {
         Ok(())
     }
 
-    /// Takes a quote. A bid or an offer of 0 is absent. Refuses, and changes nothing, when the session is done (7), a price is outside its limits
-    /// or the bid is not below the offer and neither is 0 (8), or the clock does not allow it (11).
+    /// Takes a quote. A bid or an offer of 0 is absent. Nothing else changes. Refuses, and changes nothing, when the session is done (7), a price
+    /// is outside its limits or the bid is not below the offer and neither is 0 (8), or the clock does not allow it (11).
     pub fn record_quote(&mut self, quote: Quote) -> Result<(), SessionFault>
         ensures value { result ≡ quote_answer self.old quote }
         ensures after { self.new ≡ if_accepted result (after_quote self.old quote) self.old }

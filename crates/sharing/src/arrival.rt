@@ -28,7 +28,8 @@ impl Sharing for ByArrival {
 
     ghost lots = { λ s. arrival_lots };
 
-    /// Moreover: if a claimant is left short, every later claimant gets nothing.
+    /// Writes the gifts by arrival. If a claimant is left short, every later claimant gets nothing. Refuses, and writes no gift, when claims and
+    /// gifts are not equally long (22).
     fn share(&self, amount: u64, claims: &[u32], gifts: &mut [u32]) -> Result<(), Unequal>
         ensures value { result ≡ answer claims.now gifts.old }
         ensures after { gifts.new ≡ given claims.now gifts.old (arrival amount claims.now) }

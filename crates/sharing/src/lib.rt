@@ -17,12 +17,15 @@ pub use turns::ByTurns;
 #[derive(Clone, Copy, PartialEq, Eq, Debug)]
 pub struct Unequal;
 
+/// The ground of the refusal, in words.
 // By hand: a derived text has no contract.
 impl fmt::Display for Unequal {
     ghost output = { λ _. Some unequal_text };
 
+    ghost styled_output = { λ _ _. Some unequal_text };
+
     fn fmt<W: fmt::Write>(&self, f: &mut fmt::Formatter<W>) -> fmt::Result {
-        write!(f, "claims and gifts are not equally long")
+        f.write_str("claims and gifts are not equally long")
     }
 }
 
@@ -46,20 +49,26 @@ pub trait Sharing {
         Self::LOT
     }
 
-    /// Shares `amount` among `claims` and writes the gifts. Refuses, and writes no gift, when claims and gifts are not equally long.
+    /// Shares `amount` among `claims`: writes the gifts of its meaning, one for each claim. Refuses, and writes no gift, when claims and gifts are
+    /// not equally long (22). Claims and method are not changed.
     // Two slices of the caller's, since no call allocates (docs/DECISIONS.md, "Forms that are fixed").
     fn share(&self, amount: u64, claims: &[u32], gifts: &mut [u32]) -> Result<(), Unequal>
         ensures value { result ≡ answer claims.now gifts.old }
         ensures after { gifts.new ≡ given claims.now gifts.old (meaning self.now amount claims.now) };
 
+    // The lot is 1 share or more.
     ghost positive: { 1 ≤ LOT };
 
+    // There are as many gifts as claims.
     ghost paired: { (s : Self) (amount : ℕ) (claims : List ℕ) → length (meaning s amount claims) ≡ length claims };
 
+    // No gift exceeds its claim.
     ghost within: { (s : Self) (amount : ℕ) (claims : List ℕ) → Within claims (meaning s amount claims) };
 
+    // Together the gifts are the lesser of the amount and all claims.
     ghost spends: { (s : Self) (amount : ℕ) (claims : List ℕ) → total (meaning s amount claims) ≡ min amount (total claims) };
 
+    // Each gift is its claim or a multiple of the lot, save for at most one claimant.
     ghost lots: { (s : Self) (amount : ℕ) (claims : List ℕ) → Lotted LOT claims (meaning s amount claims) };
 }
 

@@ -29,7 +29,8 @@ impl Sharing for ByTurns {
 
     ghost lots = { λ s. turns_lots };
 
-    /// Moreover: of any two claimants, if the first is left short, the second's gift is at most 100 above the first's.
+    /// Writes the gifts by turns. Of any two claimants, if the first is left short, the second's gift is at most 100 above the first's. Refuses,
+    /// and writes no gift, when claims and gifts are not equally long (22).
     fn share(&self, amount: u64, claims: &[u32], gifts: &mut [u32]) -> Result<(), Unequal>
         ensures value { result ≡ answer claims.now gifts.old }
         ensures after { gifts.new ≡ given claims.now gifts.old (turns amount claims.now) }

@@ -21,9 +21,10 @@ use order::{Row, Terms, is_price};
 use sharing::Sharing;
 
 impl Session {
-    /// Closes at `price`: each order has its filled shares, the print is the answer, and the session is done. The method is asked once, for
-    /// the class that gets some but not all. `claims` and `gifts` then hold one entry for each row, and in later places what they held; rows
-    /// that fail their check have claim 0 and stay as they are.
+    /// Closes at `price`: each order has its filled shares, the print of that price with the volume is the answer, and the session is done. The
+    /// method is asked once, for the class that gets some but not all. `claims` then hold the sizes of the orders in that class and 0 for every
+    /// other row, `gifts` what the method gives them of what is left, and later places of both what they held. Rows that fail their check have
+    /// claim 0 and stay as they are.
     ///
     /// Refuses, and changes nothing, when the session is done (7), the price is outside its limits (8), the clock does not allow it (11), there
     /// is no sale (16), a work list has fewer places than the list has rows (20), or no assignment exists (21): no division of the shares fills
