@@ -3,6 +3,7 @@
 
 ghost use Rattle.std.specs.Prelude.{◌≡◌, ◌+◌, ◌≤◌, ◌++◌, length, codes};
 ghost use Rattle.arrayvec.specs.ArrayString.{array_string_len};
+ghost use Rattle.line.specs.Reading.{EndsAtLineFeed, HasOwnText};
 ghost use Rattle.line.specs.Texts.{line_text, side_code};
 
 use arrayvec::ArrayString;
@@ -16,27 +17,27 @@ pub const MOST: usize = 64;
 /// A line of a tape.
 #[derive(Clone, Copy, PartialEq, Eq, Debug)]
 pub enum Line {
-    /// The lot of the sharing method, after a good header.
+    /// `U lot`: the lot of the sharing method, after a good header.
     Lot(u32),
-    /// A notice that a message published, with its amount and the reference price.
+    /// `N message amount reference`: a notice that a message published, with its amount, which may be negative, and the reference price.
     Notice {
         message: u32,
         amount: i64,
         reference: u32,
     },
-    /// The print of the close.
+    /// `P price volume`: the print of the close.
     Print {
         price: u32,
         volume: u64,
     },
-    /// What the close gave an order, and what that lacks.
+    /// `F number side filled unfilled`: what the close gave an order, and what that lacks.
     Fill {
         number: u32,
         side: Side,
         filled: u32,
         unfilled: u32,
     },
-    /// The message that was refused, 0 for the header, and why.
+    /// `R message layer question`: the message that was refused, 0 for the header, and why.
     Refusal {
         message: u32,
         fault: FileFault,
@@ -44,11 +45,15 @@ pub enum Line {
 }
 
 impl Line {
-    /// The bytes of the line, at most 64: a letter, the fields with one space before each, numbers in decimal and a side as its letter, and a line
-    /// feed.
+    /// The bytes of the line, at most 64: a letter, the fields with one space before each, numbers in decimal, `-` before a
+    /// negative one, a side as its letter, and a line feed, which stands nowhere else in them. No other line has these bytes.
+    /// There is room for 64.
     pub fn text(self) -> ArrayString<MOST>
         ensures value { result.bytes ≡ line_text self }
         ensures short { length (line_text self) ≤ 64 }
+        ensures room { MOST ≡ 64 }
+        ensures ends { EndsAtLineFeed (line_text self) }
+        ensures readable { HasOwnText self }
     {
         let mut text = ArrayString::new();
         match self {

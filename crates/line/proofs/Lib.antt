@@ -1,0 +1,3 @@
+pub mod Fields
+pub mod Letters
+pub mod Reading
