@@ -36,7 +36,7 @@ module _ (lot : ℕ) (meaning : ℕ → List ℕ → List ℕ) where
   lines_from st (in_message n come) bytes = message_lines lot meaning st n (gathered come bytes)
   lines_from st over bytes = []
 
-  abbrev lines_ahead : Standing → List ℕ → List Line
+  abbrev pub lines_ahead : Standing → List ℕ → List Line
   lines_ahead s bytes = lines_from s.stage s.place bytes
 
   -- a message past the last that a file may have is refused
@@ -148,6 +148,10 @@ module _ (lot : ℕ) (meaning : ℕ → List ℕ → List ℕ) where
       ap (λ (rest : List ℕ). texts (due_from lot meaning s piece).lines ++ rest) (in_pieces next pieces (sound_bytes s piece sound))
       ∙ sym (texts-append (due_from lot meaning s piece).lines (lines_ahead next (concat pieces)))
       ∙ ap texts (sym (some_bytes s piece (concat pieces)))
+
+  -- the first bytes of a file make its first lines due
+  pub first_lines : (st : Stage) (xs ys : List ℕ) → lines_of_file lot meaning st (xs ++ ys) ≡ (due_from lot meaning (at_start st) xs).lines ++ lines_ahead (due_from lot meaning (at_start st) xs).standing ys
+  first_lines st xs ys = some_bytes (at_start st) xs ys
 
   pub writes_tape : (st : Stage) → WritesTape lot meaning st
   writes_tape st pieces = in_pieces (at_start st) pieces tt

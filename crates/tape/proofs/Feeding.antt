@@ -111,7 +111,16 @@ module _ (lot : ℕ) (meaning : ℕ → List ℕ → List ℕ) where
         let none : Took (due_from lot meaning s' rest) s' after after = rw (stays_over s'.place s'.stage done rest) (record { stands = refl; wrote = sym (append-nil after) }) in
         rw split (took-more xs rest s' s' after after so_far none)
 
+    -- what is written of a piece is no longer than the lines of the whole piece
+    pub took-length : (xs rest : List ℕ) (s' : Standing) (after : List ℕ) → piece ≡ xs ++ rest → Took (due_from lot meaning s xs) s' before after
+        → length after ≤ length before + length (texts (due_from lot meaning s piece).lines)
+    took-length xs rest s' after split so_far =
+        let first = (due_from lot meaning s xs).lines in
+        let then_on = (due_from lot meaning (due_from lot meaning s xs).standing rest).lines in
+        rw (split, lines-append s xs rest, texts-append, so_far.wrote)
+        (omega (arith, length-append before (texts first), length-append (texts first) (texts then_on)))
+
     -- there was no memory for the lines of what comes next
-    pub stopped : (xs rest : List ℕ) (s' s'' : Standing) (written after : List ℕ) → piece ≡ xs ++ rest → s'' ≡ s' → after ≡ written
+    pub stopped : (xs rest : List ℕ) (s' s'' : Standing) (written after : List ℕ) → piece ≡ xs ++ rest → 0 < length rest → s'' ≡ s' → after ≡ written
         → Took (due_from lot meaning s xs) s' before written → Stopped lot meaning s piece s'' before after
-    stopped xs rest s' s'' written after split stays unwritten so_far = record { taken = xs; rest = rest; split = split; took = rw (stays, unwritten) so_far }
+    stopped xs rest s' s'' written after split more stays unwritten so_far = record { taken = xs; rest = rest; split = split; more = more; took = rw (stays, unwritten) so_far }

@@ -3,3 +3,4 @@ pub mod Feeding
 pub mod Cutting
 pub mod Playing
 pub mod Upholding
+pub mod Reading

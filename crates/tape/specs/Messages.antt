@@ -20,7 +20,7 @@ use Rattle.line.specs.declared.Line.TheVariants.{Notice, Print, Fill, Refusal}
 abbrev pub MessageReply : Type 0
 MessageReply = Result Outcome MessageFault
 
--- the same in a file, which adds nothing but its number
+-- the same in a file; the number of the message stands beside it in the line
 abbrev pub FileReply : Type 0
 FileReply = Result Outcome FileFault
 

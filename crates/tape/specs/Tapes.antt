@@ -1,5 +1,5 @@
 -- The tape of a file. Assumes nothing.
-use Rattle.std.specs.Prelude.{ℕ, ◌+◌, if◌then◌else◌, List, [], ◌∷◌, ◌++◌, Ok, Err, Result}
+use Rattle.std.specs.Prelude.{◌≡◌, ℕ, ◌+◌, if◌then◌else◌, List, [], ◌∷◌, ◌++◌, All, Ok, Err, Result}
 use Rattle.std.specs.List.{flat_map}
 use Rattle.life.specs.Stages.{Stage}
 use Rattle.message.specs.declared.fault.FileFault.{FileFault}
@@ -7,12 +7,17 @@ use Rattle.message.specs.declared.fault.FileFault.TheVariants.{NoMessage}
 use Rattle.line.specs.declared.Line.{Line}
 use Rattle.line.specs.declared.Line.TheVariants.{Lot, Refusal}
 use Rattle.line.specs.Texts.{line_text}
+use Rattle.line.specs.Reading.{OfTypes}
 use Rattle.tape.specs.Files.{body_of, messages_of, is_message}
 use Rattle.tape.specs.Messages.{stage_left, lines_at}
 
 -- the bytes of lines
 abbrev pub texts : List Line → List ℕ
 texts lines = flat_map line_text lines
+
+-- lines are read back from their bytes: no others have the same, where the numbers of all are of their types
+abbrev pub ReadBack : Type 0
+ReadBack = (lines others : List Line) → All OfTypes lines → All OfTypes others → texts lines ≡ texts others → lines ≡ others
 
 -- closes are shared by a method of this lot and this meaning
 module _ (lot : ℕ) (meaning : ℕ → List ℕ → List ℕ) where

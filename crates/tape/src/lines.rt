@@ -14,6 +14,7 @@ use std::alloc::AllocError;
 pub(crate) fn write_line(out: &mut Vec<u8>, line: Line) -> Result<(), AllocError>
     ensures after { out.new.items ≡ (if is_ok result then out.old.items ++ line_text line else out.old.items) }
     ensures succeeds { vec_len out.old + 64 ≤ vec_capacity out.old → IsOk result }
+    ensures capacity { vec_capacity out.old ≤ vec_capacity out.new }
 {
     out.extend_from_slice(line.text().as_str().as_bytes())
 }
@@ -33,6 +34,7 @@ fn append(out: &mut Vec<u8>, line: Line)
 fn append_fills(out: &mut Vec<u8>, orders: &[Row])
     requires { vec_len out.old + 64 * length orders.now ≤ vec_capacity out.old }
     ensures after { out.new.items ≡ out.old.items ++ texts (map fill_line orders.now) }
+    ensures capacity { vec_capacity out.old ≤ vec_capacity out.new }
 {
     for row in orders {
         append(out, fill_line(*row));
@@ -60,6 +62,7 @@ pub(crate) fn append_reply(
 )
     requires { vec_len out.old + 64 * (1 + length orders.now) ≤ vec_capacity out.old }
     ensures after { out.new.items ≡ out.old.items ++ texts (lines_of number reply orders.now) }
+    ensures capacity { vec_capacity out.old ≤ vec_capacity out.new }
 {
     match reply {
         Ok(Outcome::Taken) => {}

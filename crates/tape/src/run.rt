@@ -2,9 +2,9 @@
 ghost use Rattle.std.specs.Prelude.{◌≡◌, ◌≤◌, [], ◌∷◌, ◌++◌, List, ℕ, MatchResult, IfSome, ◌<◌, ◌+◌, IsOk, vec_len, vec_capacity, length, take};
 ghost use Rattle.line.specs.declared.Line.TheVariants.{Refusal};
 ghost use Rattle.tape.specs.Messages.{reply_to, of_message, stage_left};
-ghost use Rattle.tape.specs.Runs.{stage_of, stage_on, standing_of, if_written, Took, Stopped};
+ghost use Rattle.tape.specs.Runs.{stage_of, stage_on, standing_of, if_written, HasRoom, Took, Stopped};
 ghost use Rattle.tape.specs.Standing.{in_message, over, at_start, is_over, due, due_at, due_in_header, due_in_message, due_after_message, due_from, due_at_end, WritesTape};
-ghost use Rattle.tape.specs.Tapes.{texts, lines_of_file};
+ghost use Rattle.tape.specs.Tapes.{texts, ReadBack, lines_of_file};
 ghost use Rattle.tape.specs.Upheld.{messages_in, UpheldTape};
 
 use crate::begun::Begun;
@@ -56,6 +56,7 @@ impl<'a, S: Sharing> Run<'a, S> {
         ensures method { result.session.method ≡ method }
         ensures tape { WritesTape S.LOT (S.meaning method) (stage_on order_places.entry.now notice_places.entry.now claims.entry.now gifts.entry.now) }
         ensures upheld { (file : List ℕ) → UpheldTape (messages_in file) (lines_of_file S.LOT (S.meaning method) (stage_on order_places.entry.now notice_places.entry.now claims.entry.now gifts.entry.now) file) }
+        ensures readable { ReadBack }
     {
         Run {
             session: OpenSession::open(order_places, notice_places, claims, gifts, method),
@@ -65,12 +66,15 @@ impl<'a, S: Sharing> Run<'a, S> {
     }
 
     /// Takes the next bytes of the file, however many, and writes the lines that they make due. For want of memory it stops before some byte for
-    /// whose lines it was given no room: what was written stays, and so does what the bytes before have left.
+    /// whose lines it was given no room: what was written stays, and so does what the bytes before have left. Room for all that it is to write
+    /// and for 262,208 bytes more suffices.
     pub fn feed(&mut self, piece: &[u8], out: &mut Vec<u8>) -> Result<(), AllocError>
         ensures cases { MatchResult result
             (λ _. Took (due_from S.LOT (S.meaning self.old.session.method) (standing_of self.old) piece.now) (standing_of self.new) out.old.items out.new.items)
             (λ _. Stopped S.LOT (S.meaning self.old.session.method) (standing_of self.old) piece.now (standing_of self.new) out.old.items out.new.items) }
         ensures method { self.new.session.method ≡ self.old.session.method }
+        ensures succeeds { HasRoom (due_from S.LOT (S.meaning self.old.session.method) (standing_of self.old) piece.now).lines out.old → IsOk result }
+        ensures capacity { vec_capacity out.old ≤ vec_capacity out.new }
     {
         let mut rest = piece;
         while !rest.is_empty() {
@@ -100,6 +104,7 @@ impl<'a, S: Sharing> Run<'a, S> {
         ensures out { out.new.items ≡ if_written result (out.old.items ++ texts (due_at_end (standing_of self.old)).lines) out.old.items }
         ensures method { self.new.session.method ≡ self.old.session.method }
         ensures succeeds { vec_len out.old + 64 ≤ vec_capacity out.old → IsOk result }
+        ensures capacity { vec_capacity out.old ≤ vec_capacity out.new }
     {
         match self.place {
             Place::Header(awaited) => self.end(0, awaited.fault(), out),
@@ -123,6 +128,8 @@ impl<'a, S: Sharing> Run<'a, S> {
             × Took (due_from S.LOT (S.meaning self.old.session.method) (standing_of self.old) (take taken bytes.now)) (standing_of self.new) out.old.items out.new.items)
             (λ _. (standing_of self.new ≡ standing_of self.old) × (out.new.items ≡ out.old.items)) }
         ensures method { self.new.session.method ≡ self.old.session.method }
+        ensures succeeds { HasRoom [] out.old → IsOk result }
+        ensures capacity { vec_capacity out.old ≤ vec_capacity out.new }
     {
         if let Some((message, _)) = bytes.split_first_chunk::<16>() {
             if let Some(number) = self.whole_message_next() {
@@ -149,6 +156,8 @@ impl<'a, S: Sharing> Run<'a, S> {
         ensures after { standing_of self.new ≡ if_written result (due_at S.LOT (S.meaning self.old.session.method) (standing_of self.old) byte).standing (standing_of self.old) }
         ensures out { out.new.items ≡ if_written result (out.old.items ++ texts (due_at S.LOT (S.meaning self.old.session.method) (standing_of self.old) byte).lines) out.old.items }
         ensures method { self.new.session.method ≡ self.old.session.method }
+        ensures succeeds { HasRoom [] out.old → IsOk result }
+        ensures capacity { vec_capacity out.old ≤ vec_capacity out.new }
     {
         match self.place {
             Place::Header(awaited) => self.take_in_header(awaited, byte, out),
@@ -167,6 +176,8 @@ impl<'a, S: Sharing> Run<'a, S> {
         ensures after { standing_of self.new ≡ if_written result (due_in_header S.LOT (S.meaning self.old.session.method) (stage_of self.old.session) awaited byte).standing (standing_of self.old) }
         ensures out { out.new.items ≡ if_written result (out.old.items ++ texts (due_in_header S.LOT (S.meaning self.old.session.method) (stage_of self.old.session) awaited byte).lines) out.old.items }
         ensures method { self.new.session.method ≡ self.old.session.method }
+        ensures succeeds { HasRoom [] out.old → IsOk result }
+        ensures capacity { vec_capacity out.old ≤ vec_capacity out.new }
     {
         if byte != awaited.byte() {
             return self.end(0, awaited.fault(), out);
@@ -174,7 +185,7 @@ impl<'a, S: Sharing> Run<'a, S> {
         match awaited.next() {
             Some(next) => self.place = Place::Header(next),
             None => {
-                write_line(out, Line::Lot(S::lot_size()))?;
+                write_line(out, Line::Lot(S::LOT))?;
                 self.place = Place::Messages(1);
                 self.begun.clear();
             }
@@ -192,6 +203,8 @@ impl<'a, S: Sharing> Run<'a, S> {
         ensures after { standing_of self.new ≡ if_written result (due_in_message S.LOT (S.meaning self.old.session.method) (stage_of self.old.session) number self.old.begun byte).standing (standing_of self.old) }
         ensures out { out.new.items ≡ if_written result (out.old.items ++ texts (due_in_message S.LOT (S.meaning self.old.session.method) (stage_of self.old.session) number self.old.begun byte).lines) out.old.items }
         ensures method { self.new.session.method ≡ self.old.session.method }
+        ensures succeeds { HasRoom [] out.old → IsOk result }
+        ensures capacity { vec_capacity out.old ≤ vec_capacity out.new }
     {
         if number > LAST {
             return self.end(number, FileFault::NoMessage, out);
@@ -217,6 +230,8 @@ impl<'a, S: Sharing> Run<'a, S> {
         ensures after { standing_of self.new ≡ if_written result (due_after_message S.LOT (S.meaning self.old.session.method) (stage_of self.old.session) number bytes.now).standing (standing_of self.old) }
         ensures out { out.new.items ≡ if_written result (out.old.items ++ texts (due_after_message S.LOT (S.meaning self.old.session.method) (stage_of self.old.session) number bytes.now).lines) out.old.items }
         ensures method { self.new.session.method ≡ self.old.session.method }
+        ensures succeeds { HasRoom [] out.old → IsOk result }
+        ensures capacity { vec_capacity out.old ≤ vec_capacity out.new }
     {
         out.reserve(ROOM)?;
         let reply = self.answer(bytes);
@@ -244,6 +259,7 @@ impl<'a, S: Sharing> Run<'a, S> {
         ensures out { out.new.items ≡ if_written result (out.old.items ++ texts (due (Refusal message fault ∷ []) over (stage_of self.old.session)).lines) out.old.items }
         ensures method { self.new.session.method ≡ self.old.session.method }
         ensures succeeds { vec_len out.old + 64 ≤ vec_capacity out.old → IsOk result }
+        ensures capacity { vec_capacity out.old ≤ vec_capacity out.new }
     {
         write_line(out, Line::Refusal { message, fault })?;
         self.place = Place::Over;
