@@ -1,5 +1,6 @@
 // The places of a session's lists.
-ghost use Rattle.std.specs.Prelude.{◌≡◌, List, ℕ, length};
+ghost use Rattle.std.specs.Prelude.{◌≡◌, List, ℕ};
+ghost use Rattle.player.specs.Blank.{blank_places};
 ghost use Rattle.tape.specs.Runs.{stage_on, standing_of};
 ghost use Rattle.tape.specs.Standing.{at_start, WritesTape};
 ghost use Rattle.tape.specs.Tapes.{lines_of_file};
@@ -26,11 +27,9 @@ pub struct Places {
 }
 
 impl Places {
-    /// Makes the places.
+    /// Places for 1,024 orders and 64 notices, and 1,024 in each work list. What they hold has no meaning, and is always the same.
     pub fn new() -> Places
-        ensures orders { length result.orders ≡ 1024 }
-        ensures notices { length result.notices ≡ 64 }
-        ensures work { (length result.claims ≡ 1024) × (length result.gifts ≡ 1024) }
+        ensures value { result ≡ blank_places }
     {
         Places {
             orders: [Row::unfilled(0, Kind::Crowd, Side::Buy, false, 0, 0); ORDERS],

@@ -4,7 +4,7 @@ use thiserror::Error;
 
 /// Why a file is not played to its end.
 #[derive(Debug, Drop, Error)]
-pub(crate) enum Trouble {
+pub enum Trouble {
     /// With the name of the program.
     #[error("a file comes on standard input, and no argument is taken\nusage: {0}")]
     Argument(&'static str),
@@ -14,4 +14,7 @@ pub(crate) enum Trouble {
     Output(io::Error),
     #[error("out of memory")]
     Memory,
+    /// The input has not ended after 2^64 - 1 reads.
+    #[error("no end of the input")]
+    Endless,
 }
