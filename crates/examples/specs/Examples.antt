@@ -1,11 +1,9 @@
 -- Worked examples of the rule, and what it is for one to hold. Assumes nothing.
-use Rattle.std.specs.Prelude.{◌≡◌, ℕ, ◌≤◌, Bool, false, List, [], ◌∷◌, map, length, replicate, ℤ, pos, Option, Result}
+use Rattle.std.specs.Prelude.{◌≡◌, ℕ, ◌≤◌, Bool, false, List, [], ◌∷◌, map, length, replicate, ℤ, Option, Result}
 use Rattle.list.specs.declared.List.{List as Held}
 use Rattle.list.specs.Held.{kept}
 use Rattle.order.specs.declared.class.Class.{Class}
-use Rattle.order.specs.declared.kind.Kind.TheVariants.{Crowd}
 use Rattle.order.specs.declared.kind.Row.{Row}
-use Rattle.order.specs.declared.kind.Side.TheVariants.{Buy}
 use Rattle.order.specs.declared.limit.Standing.{Standing}
 use Rattle.order.specs.declared.limit.Standing.TheVariants.{Out}
 use Rattle.order.specs.declared.sale.Tick.{Tick}
@@ -14,7 +12,6 @@ use Rattle.order.specs.declared.sale.Quote.{Quote}
 use Rattle.order.specs.declared.terms.Terms.{Terms}
 use Rattle.order.specs.declared.ticket.Ticket.{Ticket}
 use Rattle.order.specs.Classes.{class_of}
-use Rattle.order.specs.Entered.{unfilled_row}
 use Rattle.order.specs.Limits.{standing_of}
 use Rattle.order.specs.Sales.{reference, tick_after}
 use Rattle.sharing.specs.Arrival.{arrival}
@@ -44,6 +41,7 @@ use Rattle.message.specs.Calls.{decoded}
 use Rattle.line.specs.declared.Line.{Line}
 use Rattle.line.specs.Texts.{line_text}
 use Rattle.tape.specs.Messages.{Reading}
+use Rattle.player.specs.Blank.{blank_row, blank_notice, blank_stage}
 use Rattle.tape.specs.Runs.{stage_on}
 use Rattle.tape.specs.Tapes.{lines_of_file, tape_of}
 use Rattle.tape.specs.Upheld.{messages_in, UpheldTape}
@@ -89,6 +87,10 @@ pub data Example : Type 0 where
   has_tape_by_arrival : List ℕ → List ℕ → Example
   -- they have it where the close is shared by turns
   has_tape_by_turns : List ℕ → List ℕ → Example
+  -- the bytes of a file have this tape on the places of the program `arrival`, 1,024 for orders and 64 for notices
+  plays_by_arrival : List ℕ → List ℕ → Example
+  -- they have it on those of the program `turns`
+  plays_by_turns : List ℕ → List ℕ → Example
   -- an amount is shared so among claims by arrival
   shared_by_arrival : ℕ → List ℕ → List ℕ → Example
   -- it is shared so among them by turns
@@ -106,17 +108,17 @@ holding_all xs = record { places = record { ref_ptr = (0, 0); ghost_name = 0; no
 abbrev pub work_list : ℕ → List ℕ
 work_list n = replicate n 0
 
--- the row in a place that holds no element; any row would do
-abbrev any_row : Row
-any_row = unfilled_row 0 Crowd Buy false 0 0
+-- a session has just opened on lists of so many places for orders and for notices, which hold what a program's do, and work lists as long as that for orders
+abbrev pub on_places : ℕ → ℕ → Stage
+on_places orders notices = stage_on (replicate orders blank_row) (replicate notices blank_notice) (work_list orders) (work_list orders)
 
--- the notice in such a place; any notice would do
-abbrev any_notice : Notice
-any_notice = record { amount = pos 0; reference = 0; mandatory = false }
-
--- a session has just opened on lists and work lists of six places
+-- on lists and work lists of six places
 abbrev pub on_six_places : Stage
-on_six_places = stage_on (replicate 6 any_row) (replicate 6 any_notice) (work_list 6) (work_list 6)
+on_six_places = on_places 6 6
+
+-- on the places of the two programs
+abbrev pub on_program_places : Stage
+on_program_places = blank_stage
 
 -- the calls of such a session, without their answers
 abbrev pub calls_of : List (Call × Answer) → List Call
@@ -139,12 +141,12 @@ pub record Lives (meaning : ℕ → List ℕ → List ℕ) (life : List (Call ×
   -- the calls with these answers are a whole life
   pub whole : WholeLife (calls_of life) (answers_of life) (end_of meaning life).state (kept (end_of meaning life).orders) (kept (end_of meaning life).notices)
 
--- the bytes of a file have this tape, where a close is shared by a method of this lot and this meaning
-pub record HasTape (lot : ℕ) (meaning : ℕ → List ℕ → List ℕ) (file tape : List ℕ) : Type 0 where
+-- the bytes of a file have this tape on a session that opens on these places, where a close is shared by a method of this lot and this meaning
+pub record HasTape (places : Stage) (lot : ℕ) (meaning : ℕ → List ℕ → List ℕ) (file tape : List ℕ) : Type 0 where
   -- the bytes of its tape are these
-  pub same : tape_of lot meaning on_six_places file ≡ tape
+  pub same : tape_of lot meaning places file ≡ tape
   -- what it says of the close is upheld by the ledger of the file's own messages
-  pub upheld : UpheldTape (messages_in file) (lines_of_file lot meaning on_six_places file)
+  pub upheld : UpheldTape (messages_in file) (lines_of_file lot meaning places file)
 
 -- an example holds: what it says is so by the definitions of the rule
 abbrev pub Holds : Example → Type 0
@@ -165,8 +167,10 @@ Holds (lives_by_arrival life shares) = Lives arrival life shares
 Holds (lives_by_turns life shares) = Lives turns life shares
 Holds (reads bytes reading) = decoded bytes ≡ reading
 Holds (has_text line bytes) = (line_text line ≡ bytes) × (length bytes ≤ 64)
-Holds (has_tape_by_arrival file tape) = HasTape 1 arrival file tape
-Holds (has_tape_by_turns file tape) = HasTape 100 turns file tape
+Holds (has_tape_by_arrival file tape) = HasTape on_six_places 1 arrival file tape
+Holds (has_tape_by_turns file tape) = HasTape on_six_places 100 turns file tape
+Holds (plays_by_arrival file tape) = HasTape on_program_places 1 arrival file tape
+Holds (plays_by_turns file tape) = HasTape on_program_places 100 turns file tape
 Holds (shared_by_arrival amount claims gifts) = arrival amount claims ≡ gifts
 Holds (shared_by_turns amount claims gifts) = turns amount claims ≡ gifts
 

@@ -109,6 +109,18 @@ noticed_file =
     ∷ close 1500
     ∷ [])
 
+-- at 15:45 an imbalance of 49,900 is published, not flagged as significant
+abbrev pub slight_file : List ℕ
+slight_file =
+    file_of (
+    sale 1500
+    ∷ entry "M" "B" 0 1 0 60099
+    ∷ entry "M" "S" 0 2 0 5000
+    ∷ entry "L" "S" 0 3 1500 5100
+    ∷ time 56700
+    ∷ publication
+    ∷ [])
+
 -- with a bid above the last sale a notice to sell is published
 abbrev pub quoted_file : List ℕ
 quoted_file = file_of (sale 1500 ∷ quote 1502 1520 ∷ entry "M" "S" 0 1 0 60000 ∷ publication ∷ [])

@@ -30,8 +30,8 @@ use Rattle.message.specs.declared.fault.MessageFault.TheVariants.{UnknownVerb, I
 use Rattle.message.specs.declared.fault.MessageFault.TheVariants as message_fault
 use Rattle.line.specs.declared.Line.TheVariants.{Lot, Fill, Refusal}
 use Rattle.line.specs.declared.Line.TheVariants as line
-use Rattle.examples.specs.Examples.{Example, has_reference, has_tick, has_standing, is_always_out, has_class, trade, are_unfillable, are_filled, have_imbalance, has_allowance, has_entry, has_publication, has_close, lives_by_arrival, lives_by_turns, reads, has_text, has_tape_by_arrival, has_tape_by_turns, shared_by_arrival, shared_by_turns}
-use Rattle.examples.specs.Files.{message, unused, sale, sample_file, cut_file, changed_file, noticed_file, quoted_file, lone_file, done_file, refused_file, full_file, short_file, unclosed_file}
+use Rattle.examples.specs.Examples.{Example, has_reference, has_tick, has_standing, is_always_out, has_class, trade, are_unfillable, are_filled, have_imbalance, has_allowance, has_entry, has_publication, has_close, lives_by_arrival, lives_by_turns, reads, has_text, has_tape_by_arrival, has_tape_by_turns, plays_by_arrival, plays_by_turns, shared_by_arrival, shared_by_turns}
+use Rattle.examples.specs.Files.{message, unused, sale, sample_file, cut_file, changed_file, noticed_file, slight_file, quoted_file, lone_file, done_file, refused_file, full_file, short_file, unclosed_file}
 
 -- the row of an order of a kind, side, price and size, without a mark
 abbrev unmarked : Kind → Side → ℕ → ℕ → Row
@@ -390,15 +390,16 @@ table =
     -- a negative amount, and the longest line, of 45 bytes
     ∷ has_text (line.Notice 4 (neg_ℤ (pos 60000)) 1502) (codes "N 4 -60000 1502\n")
     ∷ has_text (line.Notice 4294967295 (neg_ℤ (pos 9223372036854775808)) 4294967295) (codes "N 4294967295 -9223372036854775808 4294967295\n")
-    -- tapes: of a close at a second price after the first is unfillable
-    ∷ has_tape_by_arrival sample_file (codes "U 1\nR 7 3 10\nR 9 3 21\nP 2002 1000\nF 1 B 1000 0\nF 2 S 300 0\nF 3 S 500 0\nF 4 S 200 200\n")
-    ∷ has_tape_by_turns sample_file (codes "U 100\nR 7 3 10\nR 9 3 21\nP 2002 1000\nF 1 B 1000 0\nF 2 S 300 0\nF 3 S 500 0\nF 4 S 200 200\n")
-    -- with a class that is cut, shared by both methods
+    -- tapes of the two programs: of a close at a second price after the first is unfillable
+    ∷ plays_by_arrival sample_file (codes "U 1\nR 7 3 10\nR 9 3 21\nP 2002 1000\nF 1 B 1000 0\nF 2 S 300 0\nF 3 S 500 0\nF 4 S 200 200\n")
+    ∷ plays_by_turns sample_file (codes "U 100\nR 7 3 10\nR 9 3 21\nP 2002 1000\nF 1 B 1000 0\nF 2 S 300 0\nF 3 S 500 0\nF 4 S 200 200\n")
+    -- tapes on six places: with a class that is cut, shared by both methods
     ∷ has_tape_by_arrival cut_file (codes "U 1\nP 1500 250\nF 1 B 250 0\nF 2 S 250 50\nF 3 S 0 50\nF 4 S 0 200\n")
     ∷ has_tape_by_turns cut_file (codes "U 100\nP 1500 250\nF 1 B 250 0\nF 2 S 100 200\nF 3 S 50 0\nF 4 S 100 100\n")
     -- with orders that go off, and with notices, to buy and to sell
     ∷ has_tape_by_arrival changed_file (codes "U 1\nP 1500 500\nF 1 B 500 0\nF 3 S 350 0\nF 4 S 150 50\n")
     ∷ has_tape_by_arrival noticed_file (codes "U 1\nR 4 3 12\nN 5 60000 1500\nR 7 3 12\nP 1500 60000\nF 1 B 60000 0\nF 2 S 60000 0\n")
+    ∷ has_tape_by_arrival slight_file (codes "U 1\nR 6 3 18\n")
     ∷ has_tape_by_arrival quoted_file (codes "U 1\nN 4 -60000 1502\n")
     -- without a close, and after a close, where each call is refused as done
     ∷ has_tape_by_arrival lone_file (codes "U 1\nR 4 3 21\n")

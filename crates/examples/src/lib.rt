@@ -10,7 +10,7 @@ pub fn worked() -> usize
     ensures value { result ≡ length table }
     ensures hold { AllHold table }
 {
-    191
+    192
 }
 
 #[cfg(test)]

@@ -1,8 +1,10 @@
-// The code run on examples: reference prices, imbalances, refusals, a row that fails its check, a whole life, and a file with its tapes.
+// The code run on examples: reference prices, imbalances, refusals and their texts, a row that fails its check, a whole life, and a file with its tapes.
 use book::{FillFault, fill, imbalance_at};
 use life::{TooFewPlaces, live};
 use list::List;
+use message::{FileFault, MessageFault};
 use order::{Kind, Quote, Row, Sale, Side, Terms, Tick, Ticket, reference_price};
+use player::play_between;
 use session::{Call, Notice, Outcome, Print, SessionFault};
 use sharing::{ByArrival, ByTurns};
 use std::test::Fail;
@@ -61,6 +63,18 @@ fn refusals(rt: HostRuntime) -> Result<(), Fail> {
     assert_eq!(rt; refused, Err(FillFault::Unfillable));
     assert_eq!(rt; FillFault::Unfillable.question(), 21);
     assert_eq!(rt; (claims[0], gifts[0]), (8, 7));
+    Ok(())
+}
+
+// A refusal that a file carries prints the text of the innermost.
+#[test]
+fn texts(rt: HostRuntime) -> Result<(), Fail> {
+    let carried = FileFault::Message(MessageFault::Session(SessionFault::Unequal));
+    let text = format!(in rt.alloc(); "{carried}; {TooFewPlaces}")?;
+    assert_eq!(rt;
+        text.as_str(),
+        "claims and gifts are not equally long; there are fewer places for answers than calls"
+    );
     Ok(())
 }
 
@@ -231,5 +245,10 @@ fn tapes(rt: HostRuntime) -> Result<(), Fail> {
         &mut out,
     )?;
     assert!(rt; out.as_slice() == TAPES.as_bytes());
+    let mut played = Vec::new(rt.alloc());
+    let arrival = play_between(rt.alloc(), &mut file.as_slice(), &mut played, ByArrival);
+    let turns = play_between(rt.alloc(), &mut file.as_slice(), &mut played, ByTurns);
+    assert!(rt; arrival.is_ok() && turns.is_ok());
+    assert!(rt; played.as_slice() == TAPES.as_bytes());
     Ok(())
 }
