@@ -1,7 +1,7 @@
 #!/usr/bin/env python3
 """Respells the repository's own definitions, lemmas, record fields and bound variables in snake case.
 
-usage: python3 tools/respell.py          at the top of the repository, once, after the kit's port.py
+usage: python3 tools/respell.py          at the top of the repository, once, after the toolchain's own script port.py
        python3 tools/respell.py --list   prints the names that it would respell, and writes nothing
 
 A name is respelled where a file of specs/ or proofs/ declares or binds it with a dash or with a capital inside. Names that Rattle makes,
