@@ -4,11 +4,13 @@ use Rattle.list.specs.declared.List.{List as Held}
 use Rattle.list.specs.Held.{contents, held, kept, holding}
 use Rattle.order.specs.declared.kind.Row.{Row}
 use Rattle.order.specs.declared.terms.Terms.{Terms}
+use Rattle.sharing.specs.Shares.{unequal_question}
 use Rattle.book.specs.declared.entry.Entry.{Entry}
 use Rattle.book.specs.declared.fills.FillFault.{FillFault}
 use Rattle.book.specs.declared.fills.FillFault.TheVariants.{NoPlace, Unfillable, Unequal}
 use Rattle.book.specs.Entries.{orders_at}
 use Rattle.book.specs.Fill.{asked, claims_of, fills_of, given_rows, given_of}
+use Rattle.book.specs.Plans.{unfillable_question}
 use Rattle.book.specs.Theorem.{NoAssignment, Filled}
 use Rattle.book.specs.Volume.{traded, unfillable}
 
@@ -16,8 +18,8 @@ use Rattle.book.specs.Volume.{traded, unfillable}
 -- equally long?
 abbrev pub question_of : FillFault → ℕ
 question_of NoPlace = 20
-question_of Unfillable = 21
-question_of Unequal = 22
+question_of Unfillable = unfillable_question
+question_of Unequal = unequal_question
 
 -- both work lists have a place for each row
 abbrev pub have_room : Held Row → List ℕ → List ℕ → Bool

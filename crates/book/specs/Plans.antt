@@ -1,5 +1,5 @@
 -- The plan of a price: how much trades there, and how far each side is filled. Assumes nothing.
-use Rattle.std.specs.Prelude.{◌≡◌, ℕ, max, if◌then◌else◌, List, Ok, Err, Result, MatchResult}
+use Rattle.std.specs.Prelude.{◌≡◌, ◌⊎◌, ℕ, max, if◌then◌else◌, List, Ok, Err, Result, MatchResult, IfOk}
 use Rattle.order.specs.declared.kind.Side.{Side}
 use Rattle.order.specs.declared.kind.Side.TheVariants.{Buy, Sell}
 use Rattle.order.specs.declared.kind.Row.{Row}
@@ -26,14 +26,23 @@ planned es = record { volume = traded es; buy = cut_of es Buy; sell = cut_of es 
 abbrev pub no_fill : Unfillable
 no_fill = record {}
 
+-- the question that it answers no: does an assignment exist?
+abbrev pub unfillable_question : ℕ
+unfillable_question = 21
+
 -- the plan, or the refusal where the price is unfillable
 abbrev pub plan_at : List Entry → Result Plan Unfillable
 plan_at es = (if unfillable es then Err no_fill else Ok (planned es))
 
--- a plan comes with a volume that is the largest, and its refusal means that there is no assignment
+-- at most one side has something left for a cut class
+abbrev pub OneLeft : Plan → Type 0
+OneLeft p = (p.buy.left ≡ 0) ⊎ (p.sell.left ≡ 0)
+
+-- a plan comes with a volume that is the largest, and something left on at most one side; its refusal means that there is no assignment
 pub record Planned (es : List Entry) (r : Result Plan Unfillable) : Type 0 where
   pub value : r ≡ plan_at es
   pub largest : MatchResult r (λ p. Largest es p.volume) (λ _. NoAssignment es)
+  pub one_left : IfOk r OneLeft
 
 -- how far a plan fills a side
 abbrev pub cut_for : Plan → Side → Cut

@@ -60,19 +60,23 @@ impl fmt::Display for FillFault {
 
 impl Error for FillFault {}
 
-/// The refusal of the same name.
+/// The refusal of the same name, with the same number.
 // Both conversions are by hand: a clause names the fault, and a derived one has no contract.
 impl From<Unfillable> for FillFault {
-    ghost from_gives = { λ _ r. r ≡ ForUnfillable };
+    ghost use Rattle.book.specs.Plans.{unfillable_question};
+
+    ghost from_gives = { λ _ r. (r ≡ ForUnfillable) × (question_of r ≡ unfillable_question) };
 
     fn from(_refusal: Unfillable) -> FillFault {
         Self::Unfillable
     }
 }
 
-/// The refusal of the same name.
+/// The refusal of the same name, with the same number.
 impl From<Unequal> for FillFault {
-    ghost from_gives = { λ _ r. r ≡ ForUnequal };
+    ghost use Rattle.sharing.specs.Shares.{unequal_question};
+
+    ghost from_gives = { λ _ r. (r ≡ ForUnequal) × (question_of r ≡ unequal_question) };
 
     fn from(_refusal: Unequal) -> FillFault {
         Self::Unequal

@@ -1,7 +1,7 @@
 // How much trades at a price, and how far each side is filled.
 ghost use Rattle.std.specs.Prelude.{◌≡◌};
 ghost use Rattle.book.specs.Fill.{part, claim_in, share_in};
-ghost use Rattle.book.specs.Plans.{cut_for, part_in, asked_by, claim_by, share_by};
+ghost use Rattle.book.specs.Plans.{unfillable_question, cut_for, part_in, asked_by, claim_by, share_by};
 
 use crate::entry::Entry;
 use order::Side;
@@ -11,6 +11,15 @@ use std::fmt;
 /// The price is unfillable: no division of the shares fills every order that must execute.
 #[derive(Clone, Copy, PartialEq, Eq, Debug)]
 pub struct Unfillable;
+
+impl Unfillable {
+    /// The number of the question that is answered no: does an assignment exist (21)?
+    pub fn question(self) -> u8
+        ensures value { result ≡ unfillable_question }
+    {
+        21
+    }
+}
 
 /// The ground of the refusal, in words.
 // By hand: a derived text has no contract.

@@ -1,8 +1,8 @@
 // How much trades at a price.
-ghost use Rattle.std.specs.Prelude.{◌≡◌, ◌||◌, MatchResult, nat_lt};
+ghost use Rattle.std.specs.Prelude.{◌≡◌, ◌||◌, MatchResult, IfOk, nat_lt};
 ghost use Rattle.order.specs.declared.kind.Side.TheVariants.{Buy, Sell};
 ghost use Rattle.book.specs.Entries.{orders_at};
-ghost use Rattle.book.specs.Plans.{plan_at};
+ghost use Rattle.book.specs.Plans.{plan_at, OneLeft};
 ghost use Rattle.book.specs.Theorem.{NoAssignment, Largest};
 ghost use Rattle.book.specs.Totals.{TotalsOf, TradesBy, PlansBy};
 ghost use Rattle.book.specs.Volume.{traded_by};
@@ -26,11 +26,13 @@ pub fn weights(rows: &List<Row>, terms: Terms) -> (u64, u64)
     (buy, sell)
 }
 
-/// The plan on these terms: how much trades there, and how far each side is filled. Refuses when no division of the shares fills every order
+/// The plan on these terms: how much trades there, and how far each side is filled. At most one side has something left for a class that is cut.
+/// Refuses when no division of the shares fills every order
 /// that must execute (21).
 pub fn plan(rows: &List<Row>, terms: Terms) -> Result<Plan, Unfillable>
     ensures value { result ≡ plan_at (orders_at rows.now terms) }
     ensures largest { MatchResult result (λ found. Largest (orders_at rows.now terms) found.volume) (λ _. NoAssignment (orders_at rows.now terms)) }
+    ensures one_left { IfOk result OneLeft }
 {
     let totals = totals_at(rows, terms);
     plan_by(&totals.buy, &totals.sell)

@@ -27,6 +27,10 @@ equally_long claims gifts = length claims == length gifts
 abbrev pub unequal : Unequal
 unequal = record {}
 
+-- the question that it answers no: are claims and gifts equally long?
+abbrev pub unequal_question : ℕ
+unequal_question = 22
+
 -- what it prints
 abbrev pub unequal_text : List ℕ
 unequal_text = codes "claims and gifts are not equally long"

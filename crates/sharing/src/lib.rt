@@ -2,7 +2,7 @@
 #![tactic(auto)]
 
 ghost use Rattle.std.specs.Prelude.{◌≡◌, ℕ, ◌≤◌, min, List, length, Some};
-ghost use Rattle.sharing.specs.Shares.{total, Within, Lotted, unequal_text, answer, given};
+ghost use Rattle.sharing.specs.Shares.{total, Within, Lotted, unequal_question, unequal_text, answer, given};
 
 use std::error::Error;
 use std::fmt;
@@ -16,6 +16,15 @@ pub use turns::ByTurns;
 /// Claims and gifts are not equally long.
 #[derive(Clone, Copy, PartialEq, Eq, Debug)]
 pub struct Unequal;
+
+impl Unequal {
+    /// The number of the question that is answered no: are claims and gifts equally long (22)?
+    pub fn question(self) -> u8
+        ensures value { result ≡ unequal_question }
+    {
+        22
+    }
+}
 
 /// The ground of the refusal, in words.
 // By hand: a derived text has no contract.

@@ -41,6 +41,7 @@ fn unequal(rt: HostRuntime) {
         Err(Unequal)
     );
     assert_eq!(rt; gifts, [7, 7]);
+    assert_eq!(rt; Unequal.question(), 22);
 }
 
 #[test]
