@@ -64,7 +64,7 @@ use Rattle.tape.specs.Runs.{list_of}
 use Rattle.tape.specs.Tapes.{tape_of}
 use Rattle.tape.proofs.Upholding.{tape_upheld}
 use Rattle.player.specs.Blank.{blank_row, blank_notice}
-use Rattle.examples.specs.Examples.{Example, has_reference, has_tick, has_standing, is_always_out, has_class, trade, are_unfillable, are_filled, have_imbalance, has_allowance, has_entry, has_publication, has_close, lives_by_arrival, lives_by_turns, reads, has_text, has_tape_by_arrival, has_tape_by_turns, plays_by_arrival, plays_by_turns, shared_by_arrival, shared_by_turns, fills_by_arrival, holding_all, work_list, on_places, on_six_places, on_program_places, calls_of, answers_of, end_of, Lives, HasTape, Holds, AllHold}
+use Rattle.examples.specs.Examples.{Example, has_reference, has_tick, has_standing, is_always_out, has_class, trade, are_unfillable, are_filled, have_imbalance, has_allowance, has_entry, has_publication, has_close, lives_by_arrival, lives_by_turns, reads, has_text, has_tape_by_arrival, has_tape_by_turns, plays_by_arrival, plays_by_turns, shared_by_arrival, shared_by_turns, fills_by_arrival, holding_all, work_list, on_places, on_six_places, on_program_places, calls_of, answers_of, end_of, moments_in, Lives, HasTape, Holds, AllHold}
 
 -- a buy that is held to 0, which no price meets
 abbrev held_to_nothing : Side → Option ℕ → Bool
@@ -297,7 +297,7 @@ lives_so_is meaning divides life shares t =
     record {
       answered = answered;
       filled = (list_eq-Decides _ shares).0 both.1;
-      whole = subst (λ (answers : List Answer). WholeLife (calls_of life) answers end.state (kept end.orders) (kept end.notices)) answered whole;
+      whole = subst (λ (answers : List Answer). WholeLife (calls_of life) answers (moments_in meaning life) end.state (kept end.orders) (kept end.notices)) answered whole;
     }
 
 tape_is : (orders notices lot : ℕ) (meaning : ℕ → List ℕ → List ℕ) → Divides meaning → (file tape : List ℕ) → list_eq (tape_of lot meaning (on_places orders notices) file) tape ≡ true → HasTape (on_places orders notices) lot meaning file tape

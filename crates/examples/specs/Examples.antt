@@ -35,7 +35,7 @@ use Rattle.session.specs.Moments.{Moment}
 use Rattle.session.specs.Replies.{Reply, Answer}
 use Rattle.session.specs.States.{State}
 use Rattle.session.specs.Upheld.{filled_shares}
-use Rattle.life.specs.Stages.{Stage, after_all, answers_to}
+use Rattle.life.specs.Stages.{Stage, after_all, moments_along, answers_to}
 use Rattle.life.specs.Whole.{WholeLife}
 use Rattle.message.specs.Calls.{decoded}
 use Rattle.line.specs.declared.Line.{Line}
@@ -132,6 +132,10 @@ answers_of life = map (λ each. each.1) life
 abbrev pub end_of : (ℕ → List ℕ → List ℕ) → List (Call × Answer) → Moment
 end_of meaning life = (after_all meaning on_six_places (calls_of life)).moment
 
+-- what stands after the first k of these calls
+abbrev pub moments_in : (ℕ → List ℕ → List ℕ) → List (Call × Answer) → ℕ → Moment
+moments_in meaning life = moments_along meaning on_six_places (calls_of life)
+
 -- a session lives so, where a close is shared by a method of this meaning
 pub record Lives (meaning : ℕ → List ℕ → List ℕ) (life : List (Call × Answer)) (shares : List ℕ) : Type 0 where
   -- each call is answered so
@@ -139,7 +143,7 @@ pub record Lives (meaning : ℕ → List ℕ → List ℕ) (life : List (Call ×
   -- the orders then have these filled shares
   pub filled : filled_shares (kept (end_of meaning life).orders) ≡ shares
   -- the calls with these answers are a whole life
-  pub whole : WholeLife (calls_of life) (answers_of life) (end_of meaning life).state (kept (end_of meaning life).orders) (kept (end_of meaning life).notices)
+  pub whole : WholeLife (calls_of life) (answers_of life) (moments_in meaning life) (end_of meaning life).state (kept (end_of meaning life).orders) (kept (end_of meaning life).notices)
 
 -- the bytes of a file have this tape on a session that opens on these places, where a close is shared by a method of this lot and this meaning
 pub record HasTape (places : Stage) (lot : ℕ) (meaning : ℕ → List ℕ → List ℕ) (file tape : List ℕ) : Type 0 where

@@ -20,7 +20,7 @@ use Rattle.session.specs.Replies.{Answer}
 use Rattle.session.specs.Upheld.{UpheldBy}
 use Rattle.session.proofs.Runs.{call_carries}
 use Rattle.session.proofs.Steps.{begun_life}
-use Rattle.life.specs.Stages.{Stage, at_opening, stage_after, after_all, answers_to}
+use Rattle.life.specs.Stages.{Stage, at_opening, stage_after, after_all, moments_along, answers_to}
 use Rattle.life.specs.Whole.{lived_on, WholeLife}
 
 -- what holds of a life and holds of the life before its last call, holds of each life that it went on from
@@ -100,6 +100,12 @@ module _ (meaning : ℕ → List ℕ → List ℕ) where
   length-answers_to st [] = refl
   length-answers_to st (call ∷ calls) = ap suc (length-answers_to (stage_after meaning st call) calls)
 
+  -- the answers to the first calls are the first answers
+  answers_to-take : (k : ℕ) (st : Stage) (calls : List Call) → answers_to meaning st (take k calls) ≡ take k (answers_to meaning st calls)
+  answers_to-take zero st calls = refl
+  answers_to-take (suc k) st [] = refl
+  answers_to-take (suc k) st (call ∷ calls) = rw (answers_to-take k (stage_after meaning st call) calls) refl
+
   -- one call more
   after_all-push : (st : Stage) (calls : List Call) (call : Call) → after_all meaning st (calls ++ call ∷ []) ≡ stage_after meaning (after_all meaning st calls) call
   after_all-push st [] call = refl
@@ -119,7 +125,7 @@ module _ (meaning : ℕ → List ℕ → List ℕ) where
 
   -- calls to a session that has just opened live a whole life
   pub whole_life : Divides meaning → (start : Stage) → Opened start.moment → (calls : List Call)
-      → let end = (after_all meaning start calls).moment in WholeLife calls (answers_to meaning start calls) end.state (kept end.orders) (kept end.notices)
+      → let end = (after_all meaning start calls).moment in WholeLife calls (answers_to meaning start calls) (moments_along meaning start calls) end.state (kept end.orders) (kept end.notices)
   whole_life divides start o calls =
       let answers = answers_to meaning start calls in
       let began : Lived begun start.moment.state (kept start.moment.orders) (kept start.moment.notices) = rw (o.at_start, o.no_orders, o.no_notices) begun_life in
@@ -129,6 +135,7 @@ module _ (meaning : ℕ → List ℕ → List ℕ) where
         upheld = upheld_at _ begun calls answers lived.upheld;
         ends = ends_at begun calls answers (length-answers_to start calls) lived.lawful.ends;
         printed_once = one_print calls answers (length-answers_to start calls) lived.lawful.ends;
+        steps = λ k. rw (← answers_to-take k start calls) (lives_on divides begun start (take k calls) began);
         lived = lived;
       }
 
@@ -156,7 +163,7 @@ module _ (meaning : ℕ → List ℕ → List ℕ) where
         }
 
     -- all are answered: they have lived a whole life
-    pub lived_whole : Divides meaning → Opened start.moment → i ≡ length calls → WholeLife calls (take (length calls) answers) st.moment.state (kept st.moment.orders) (kept st.moment.notices)
+    pub lived_whole : Divides meaning → Opened start.moment → i ≡ length calls → WholeLife calls (take (length calls) answers) (moments_along meaning start calls) st.moment.state (kept st.moment.orders) (kept st.moment.notices)
     lived_whole divides o all =
         let told = answers_to meaning start calls in
         let every : take i calls ≡ calls = take_all i calls (omega (arith, all)) in

@@ -1,5 +1,5 @@
 -- What calls are answered and leave, one after another, from an opening on. Assumes nothing.
-use Rattle.std.specs.Prelude.{ℕ, List, [], ◌∷◌}
+use Rattle.std.specs.Prelude.{ℕ, List, [], ◌∷◌, take}
 use Rattle.list.specs.declared.List.{List as Held}
 use Rattle.list.specs.Held.{emptied}
 use Rattle.order.specs.declared.kind.Row.{Row}
@@ -29,6 +29,10 @@ module _ (meaning : ℕ → List ℕ → List ℕ) where
   after_all st [] = st
   after_all st (call ∷ calls) = after_all (stage_after st call) calls
 
+  -- what stands after the first k of them
+  abbrev pub moments_along : Stage → List Call → ℕ → Moment
+  moments_along st calls k = (after_all st (take k calls)).moment
+
   -- what they are answered
   abbrev pub answers_to : Stage → List Call → List Answer
   answers_to st [] = []
@@ -37,6 +41,10 @@ module _ (meaning : ℕ → List ℕ → List ℕ) where
 -- what stands at the end of a whole life, on these lists and with these work lists
 abbrev pub ending : (ℕ → List ℕ → List ℕ) → Held Row → Held Notice → List ℕ → List ℕ → List Call → Stage
 ending meaning orders notices claims gifts calls = after_all meaning (at_opening orders notices claims gifts) calls
+
+-- what stands after its first k calls
+abbrev pub moments_of : (ℕ → List ℕ → List ℕ) → Held Row → Held Notice → List ℕ → List ℕ → List Call → ℕ → Moment
+moments_of meaning orders notices claims gifts calls = moments_along meaning (at_opening orders notices claims gifts) calls
 
 -- the answers to its calls
 abbrev pub all_answers : (ℕ → List ℕ → List ℕ) → Held Row → Held Notice → List ℕ → List ℕ → List Call → List Answer

@@ -4,7 +4,7 @@
 ghost use Rattle.std.specs.Prelude.{◌≡◌, ◌++◌, length, take, drop, Ok, Err, IfOk, Some};
 ghost use Rattle.list.specs.Held.{kept};
 ghost use Rattle.life.specs.Places.{too_few_places, too_few_places_text, if_places};
-ghost use Rattle.life.specs.Stages.{ending, all_answers};
+ghost use Rattle.life.specs.Stages.{ending, moments_of, all_answers};
 ghost use Rattle.life.specs.Whole.{WholeLife};
 
 use list::List;
@@ -64,7 +64,8 @@ pub fn live<S: Sharing>(
     ensures answers { answers.new ≡ if_places calls.now answers.old
         (all_answers (S.meaning method.now) orders.old notices.old claims.old gifts.old calls.now ++ drop (length calls.now) answers.old)
         answers.old }
-    ensures whole { IfOk result (λ state. WholeLife calls.now (take (length calls.now) answers.new) state (kept orders.new) (kept notices.new)) }
+    ensures whole { let moments = moments_of (S.meaning method.now) orders.old notices.old claims.old gifts.old calls.now in
+        IfOk result (λ state. WholeLife calls.now (take (length calls.now) answers.new) moments state (kept orders.new) (kept notices.new)) }
 {
     if answers.len() < calls.len() {
         return Err(TooFewPlaces);
