@@ -4,6 +4,7 @@
 use std::collections::BTreeSet;
 use std::fs;
 use std::io;
+use std::iter;
 use std::ops::Range;
 use std::path::{Path, PathBuf};
 use std::process::Command;
@@ -14,6 +15,10 @@ use crate::tally::Tally;
 
 /// The lengths of the pieces in which a file is fed, over and over.
 const PIECES: [usize; 10] = [1, 3, 1, 16, 7, 40, 2, 100, 11, 250];
+
+/// A file is fed in messages too: first its header, then each message by itself.
+const HEADER: usize = 5;
+const MESSAGE: usize = 16;
 
 /// Of the random files each one whose seed is a multiple of this is fed in pieces too.
 const STEP: u64 = 50;
@@ -141,17 +146,21 @@ impl Differential<'_> {
         if bytes.len() > SHORT {
             return Ok(true);
         }
+        let in_pieces = ends(&bytes, PIECES.into_iter().cycle());
+        let in_messages = ends(&bytes, iter::once(HEADER).chain(iter::repeat(MESSAGE)));
         for pair in self.pairs {
-            let due = self.due(&bytes, &pair.reference)?;
-            for (name, program) in [("real", &pair.real), ("reference", &pair.reference)] {
-                if let Some(end) = program.late_piece(&bytes, &due)? {
-                    let kept = keep(self.work, file, "pieces")?;
-                    let (path, method) = (kept.display(), pair.method);
-                    println!("DIFFERENCE by {method}, fed in pieces: {path}");
-                    println!(
-                        "after byte {end} the {name} program had not written what was due and no more"
-                    );
-                    return Ok(false);
+            for ends in [&in_pieces, &in_messages] {
+                let due = self.due(&bytes, ends, &pair.reference)?;
+                for (name, program) in [("real", &pair.real), ("reference", &pair.reference)] {
+                    if let Some(end) = program.late_piece(&bytes, &due)? {
+                        let kept = keep(self.work, file, "pieces")?;
+                        let (path, method) = (kept.display(), pair.method);
+                        println!("DIFFERENCE by {method}, fed in pieces: {path}");
+                        println!(
+                            "after byte {end} the {name} program had not written what was due and no more"
+                        );
+                        return Ok(false);
+                    }
                 }
             }
         }
@@ -160,15 +169,15 @@ impl Differential<'_> {
     }
 
     /// The ends of the pieces of a file, each with the tape that is due when so much has come.
-    fn due(&self, bytes: &[u8], reference: &Program) -> io::Result<Vec<(usize, Vec<u8>)>> {
+    fn due(
+        &self,
+        bytes: &[u8],
+        ends: &[usize],
+        reference: &Program,
+    ) -> io::Result<Vec<(usize, Vec<u8>)>> {
         let cut = self.work.join("cut.clo");
         let mut due = Vec::new();
-        let mut end = 0;
-        for length in PIECES.into_iter().cycle() {
-            if end == bytes.len() {
-                break;
-            }
-            end = (end + length).min(bytes.len());
+        for &end in ends {
             fs::write(&cut, &bytes[..end])?;
             let mut tape = reference.tape(&cut)?;
             if is_cut(&bytes[..end]) {
@@ -204,6 +213,20 @@ impl Differential<'_> {
             );
         }
     }
+}
+
+/// Where the pieces of these lengths end in a file.
+fn ends(bytes: &[u8], lengths: impl Iterator<Item = usize>) -> Vec<usize> {
+    let mut ends = Vec::new();
+    let mut end = 0;
+    for length in lengths {
+        if end == bytes.len() {
+            break;
+        }
+        end = (end + length).min(bytes.len());
+        ends.push(end);
+    }
+    ends
 }
 
 /// Copies a file to a name that says where it comes from.

@@ -18,6 +18,8 @@ pub(crate) enum Trouble {
     /// With the name of the file.
     #[error("no file {0}.clo: {1}")]
     File(&'static str, io::Error),
+    #[error("{0}")]
+    Play(#[from] tape::Trouble),
     #[error("no output: {0}")]
     Output(io::Error),
     #[error("out of memory")]
@@ -28,8 +30,8 @@ pub(crate) enum Trouble {
 fn play_file<R: Files + AllocGlobal + Print>(rt: &R, name: &'static str) -> Result<(), Trouble> {
     let path = format!(in rt.alloc(); "{name}.clo").map_err(|_| Trouble::Memory)?;
     let file = fs::read(rt, path).map_err(|error| Trouble::File(name, error))?;
-    print_tape(rt, name, "arrival", ByArrival, &file)?;
-    print_tape(rt, name, "turns", ByTurns, &file)
+    print_tape(rt, name, "arrival", &ByArrival, &file)?;
+    print_tape(rt, name, "turns", &ByTurns, &file)
 }
 
 fn run<R: Files + AllocGlobal + Print>(rt: &R) -> Result<(), Trouble> {

@@ -60,11 +60,11 @@ use Rattle.message.specs.declared.fault.MessageFault.TheVariants as message
 use Rattle.message.specs.Calls.{decoded}
 use Rattle.line.specs.Texts.{line_text}
 use Rattle.tape.specs.Messages.{Reading}
-use Rattle.tape.specs.Runs.{list_of}
+use Rattle.tape.specs.Places.{Places, blank_lists}
 use Rattle.tape.specs.Tapes.{tape_of}
 use Rattle.tape.proofs.Upholding.{tape_upheld}
-use Rattle.player.specs.Blank.{blank_row, blank_notice}
-use Rattle.examples.specs.Examples.{Example, has_reference, has_tick, has_standing, is_always_out, has_class, trade, are_unfillable, are_filled, have_imbalance, has_allowance, has_entry, has_publication, has_close, lives_by_arrival, lives_by_turns, reads, has_text, has_tape_by_arrival, has_tape_by_turns, plays_by_arrival, plays_by_turns, shared_by_arrival, shared_by_turns, fills_by_arrival, holding_all, work_list, on_places, on_six_places, on_program_places, calls_of, answers_of, end_of, moments_in, Lives, HasTape, Holds, AllHold}
+use Rattle.player.specs.Played.{program_places}
+use Rattle.examples.specs.Examples.{Example, has_reference, has_tick, has_standing, is_always_out, has_class, trade, are_unfillable, are_filled, have_imbalance, has_allowance, has_entry, has_publication, has_close, lives_by_arrival, lives_by_turns, reads, has_text, has_tape_by_arrival, has_tape_by_turns, plays_by_arrival, plays_by_turns, shared_by_arrival, shared_by_turns, fills_by_arrival, holding_all, work_list, six_places, on_six_places, calls_of, answers_of, end_of, moments_in, Lives, HasTape, Holds, AllHold}
 
 -- a buy that is held to 0, which no price meets
 abbrev held_to_nothing : Side → Option ℕ → Bool
@@ -158,10 +158,10 @@ passes (lives_by_arrival life shares) = lives_so arrival life shares
 passes (lives_by_turns life shares) = lives_so turns life shares
 passes (reads bytes reading) = reading_eq (decoded bytes) reading
 passes (has_text line bytes) = list_eq (line_text line) bytes && leb (length bytes) 64
-passes (has_tape_by_arrival file tape) = list_eq (tape_of 1 arrival on_six_places file) tape
-passes (has_tape_by_turns file tape) = list_eq (tape_of 100 turns on_six_places file) tape
-passes (plays_by_arrival file tape) = list_eq (tape_of 1 arrival on_program_places file) tape
-passes (plays_by_turns file tape) = list_eq (tape_of 100 turns on_program_places file) tape
+passes (has_tape_by_arrival file tape) = list_eq (tape_of 1 arrival six_places file) tape
+passes (has_tape_by_turns file tape) = list_eq (tape_of 100 turns six_places file) tape
+passes (plays_by_arrival file tape) = list_eq (tape_of 1 arrival program_places file) tape
+passes (plays_by_turns file tape) = list_eq (tape_of 100 turns program_places file) tape
 passes (shared_by_arrival amount claims gifts) = list_eq (arrival amount claims) gifts
 passes (shared_by_turns amount claims gifts) = list_eq (turns amount claims) gifts
 
@@ -284,25 +284,24 @@ arrival_divides = record { paired = arrival_paired; within = arrival_within; spe
 turns_divides : Divides turns
 turns_divides = record { paired = turns_paired; within = turns_within; spends = turns_spends }
 
--- a session has just opened, on however many places
-just_opened : (orders notices : ℕ) → Opened (on_places orders notices).moment
-just_opened orders notices = opens (list_of (replicate orders blank_row) 0) (list_of (replicate notices blank_notice) 0) (work_list orders) (work_list orders)
+-- a session has just opened on six places
+just_opened : Opened on_six_places.moment
+just_opened = let l = blank_lists six_places in opens l.orders l.notices l.claims l.gifts
 
 lives_so_is : (meaning : ℕ → List ℕ → List ℕ) → Divides meaning → (life : List (Call × Answer)) (shares : List ℕ) → lives_so meaning life shares ≡ true → Lives meaning life shares
 lives_so_is meaning divides life shares t =
     let both = and_parts _ _ t in
     let end = end_of meaning life in
     let answered = same_answers _ (answers_of life) both.0 in
-    let whole = whole_life meaning divides on_six_places (just_opened 6 6) (calls_of life) in
+    let whole = whole_life meaning divides on_six_places just_opened (calls_of life) in
     record {
       answered = answered;
       filled = (list_eq-Decides _ shares).0 both.1;
       whole = subst (λ (answers : List Answer). WholeLife (calls_of life) answers (moments_in meaning life) end.state (kept end.orders) (kept end.notices)) answered whole;
     }
 
-tape_is : (orders notices lot : ℕ) (meaning : ℕ → List ℕ → List ℕ) → Divides meaning → (file tape : List ℕ) → list_eq (tape_of lot meaning (on_places orders notices) file) tape ≡ true → HasTape (on_places orders notices) lot meaning file tape
-tape_is orders notices lot meaning divides file tape t =
-    record { same = (list_eq-Decides _ tape).0 t; upheld = tape_upheld lot meaning divides (on_places orders notices) (just_opened orders notices) file }
+tape_is : (places : Places) (lot : ℕ) (meaning : ℕ → List ℕ → List ℕ) → Divides meaning → (file tape : List ℕ) → list_eq (tape_of lot meaning places file) tape ≡ true → HasTape places lot meaning file tape
+tape_is places lot meaning divides file tape t = record { same = (list_eq-Decides _ tape).0 t; upheld = tape_upheld lot meaning divides places file }
 
 trades_so_is : (es : List Entry) (v : ℕ) → trades_so es v ≡ true → (unfillable es ≡ false) × (traded es ≡ v)
 trades_so_is es v t = let both = and_parts _ _ t in (not-true _ both.0, eqb-true _ v both.1)
@@ -332,10 +331,10 @@ holds (has_text line bytes) t =
     let both = and_parts _ _ t in
     let short = both.1 in
     ((list_eq-Decides _ bytes).0 both.0, grind (arith, nat_tests))
-holds (has_tape_by_arrival file tape) t = tape_is 6 6 1 arrival arrival_divides file tape t
-holds (has_tape_by_turns file tape) t = tape_is 6 6 100 turns turns_divides file tape t
-holds (plays_by_arrival file tape) t = tape_is 1024 64 1 arrival arrival_divides file tape t
-holds (plays_by_turns file tape) t = tape_is 1024 64 100 turns turns_divides file tape t
+holds (has_tape_by_arrival file tape) t = tape_is six_places 1 arrival arrival_divides file tape t
+holds (has_tape_by_turns file tape) t = tape_is six_places 100 turns turns_divides file tape t
+holds (plays_by_arrival file tape) t = tape_is program_places 1 arrival arrival_divides file tape t
+holds (plays_by_turns file tape) t = tape_is program_places 100 turns turns_divides file tape t
 holds (shared_by_arrival amount claims gifts) t = (list_eq-Decides _ gifts).0 t
 holds (shared_by_turns amount claims gifts) t = (list_eq-Decides _ gifts).0 t
 

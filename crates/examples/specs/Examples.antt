@@ -41,8 +41,8 @@ use Rattle.message.specs.Calls.{decoded}
 use Rattle.line.specs.declared.Line.{Line}
 use Rattle.line.specs.Texts.{line_text}
 use Rattle.tape.specs.Messages.{Reading}
-use Rattle.player.specs.Blank.{blank_row, blank_notice, blank_stage}
-use Rattle.tape.specs.Runs.{stage_on}
+use Rattle.player.specs.Played.{program_places}
+use Rattle.tape.specs.Places.{Places, blank_lists, opening}
 use Rattle.tape.specs.Tapes.{lines_of_file, tape_of}
 use Rattle.tape.specs.Upheld.{messages_in, UpheldTape}
 
@@ -108,17 +108,13 @@ holding_all xs = record { places = record { ref_ptr = (0, 0); ghost_name = 0; no
 abbrev pub work_list : ℕ → List ℕ
 work_list n = replicate n 0
 
--- a session has just opened on lists of so many places for orders and for notices, which hold what a program's do, and work lists as long as that for orders
-abbrev pub on_places : ℕ → ℕ → Stage
-on_places orders notices = stage_on (replicate orders blank_row) (replicate notices blank_notice) (work_list orders) (work_list orders)
+-- six places in each list and work list
+abbrev pub six_places : Places
+six_places = record { orders = 6; notices = 6; claims = 6; gifts = 6 }
 
--- on lists and work lists of six places
+-- a session has just opened on them
 abbrev pub on_six_places : Stage
-on_six_places = on_places 6 6
-
--- on the places of the two programs
-abbrev pub on_program_places : Stage
-on_program_places = blank_stage
+on_six_places = opening (blank_lists six_places)
 
 -- the calls of such a session, without their answers
 abbrev pub calls_of : List (Call × Answer) → List Call
@@ -145,8 +141,8 @@ pub record Lives (meaning : ℕ → List ℕ → List ℕ) (life : List (Call ×
   -- the calls with these answers are a whole life
   pub whole : WholeLife (calls_of life) (answers_of life) (moments_in meaning life) (end_of meaning life).state (kept (end_of meaning life).orders) (kept (end_of meaning life).notices)
 
--- the bytes of a file have this tape on a session that opens on these places, where a close is shared by a method of this lot and this meaning
-pub record HasTape (places : Stage) (lot : ℕ) (meaning : ℕ → List ℕ → List ℕ) (file tape : List ℕ) : Type 0 where
+-- the bytes of a file have this tape on a session that opens on so many places, where a close is shared by a method of this lot and this meaning
+pub record HasTape (places : Places) (lot : ℕ) (meaning : ℕ → List ℕ → List ℕ) (file tape : List ℕ) : Type 0 where
   -- the bytes of its tape are these
   pub same : tape_of lot meaning places file ≡ tape
   -- what it says of the close is upheld by the ledger of the file's own messages
@@ -171,10 +167,10 @@ Holds (lives_by_arrival life shares) = Lives arrival life shares
 Holds (lives_by_turns life shares) = Lives turns life shares
 Holds (reads bytes reading) = decoded bytes ≡ reading
 Holds (has_text line bytes) = (line_text line ≡ bytes) × (length bytes ≤ 64)
-Holds (has_tape_by_arrival file tape) = HasTape on_six_places 1 arrival file tape
-Holds (has_tape_by_turns file tape) = HasTape on_six_places 100 turns file tape
-Holds (plays_by_arrival file tape) = HasTape on_program_places 1 arrival file tape
-Holds (plays_by_turns file tape) = HasTape on_program_places 100 turns file tape
+Holds (has_tape_by_arrival file tape) = HasTape six_places 1 arrival file tape
+Holds (has_tape_by_turns file tape) = HasTape six_places 100 turns file tape
+Holds (plays_by_arrival file tape) = HasTape program_places 1 arrival file tape
+Holds (plays_by_turns file tape) = HasTape program_places 100 turns file tape
 Holds (shared_by_arrival amount claims gifts) = arrival amount claims ≡ gifts
 Holds (shared_by_turns amount claims gifts) = turns amount claims ≡ gifts
 

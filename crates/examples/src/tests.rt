@@ -1,14 +1,20 @@
 // The code run on examples: reference prices, imbalances, refusals and their texts, a row that fails its check, a whole life, and a file with its tapes.
-use book::{FillFault, fill, imbalance_at};
+ghost use Rattle.std.specs.Prelude.{None, true};
+
+use book::{FillFault, Unfillable, fill, imbalance_at};
 use life::{TooFewPlaces, live};
+use line::Line;
 use list::List;
 use message::{FileFault, MessageFault};
 use order::{Kind, Quote, Row, Sale, Side, Terms, Tick, Ticket, reference_price};
 use player::play_between;
 use session::{Call, Notice, Outcome, Print, SessionFault};
-use sharing::{ByArrival, ByTurns};
+use sharing::{ByArrival, ByTurns, Unequal};
+use std::alloc::{AllocError, Global};
+use std::io;
+use std::io::ErrorKind;
 use std::test::Fail;
-use tape::play_file;
+use tape::{Memory, Reader, Run, Sink, Source, Trouble, Writer, play_in_memory};
 
 const TERMS: Terms = Terms {
     price: 1500,
@@ -62,6 +68,7 @@ fn refusals(rt: HostRuntime) -> Result<(), Fail> {
     let refused = fill(&mut rows, TERMS, &ByArrival, &mut claims, &mut gifts);
     assert_eq!(rt; refused, Err(FillFault::Unfillable));
     assert_eq!(rt; FillFault::Unfillable.question(), 21);
+    assert_eq!(rt; (Unfillable.question(), Unequal.question()), (21, 22));
     assert_eq!(rt; (claims[0], gifts[0]), (8, 7));
     Ok(())
 }
@@ -206,9 +213,9 @@ F 3 S 500 0
 F 4 S 200 200
 ";
 
-#[test]
-fn tapes(rt: HostRuntime) -> Result<(), Fail> {
-    let mut file = Vec::new(rt.alloc());
+/// The bytes of the sample file.
+fn sample_file(heap: Global) -> Result<Vec<u8>, AllocError> {
+    let mut file = Vec::new(heap);
     file.extend_from_slice(b"CLO\0\x01")?;
     for (letters, flag, numbers) in SAMPLE {
         file.extend_from_slice(letters)?;
@@ -217,38 +224,213 @@ fn tapes(rt: HostRuntime) -> Result<(), Fail> {
             file.extend_from_slice(&number.to_be_bytes())?;
         }
     }
-    let mut places = [Row::unfilled(0, Kind::Crowd, Side::Buy, false, 0, 0); 6];
-    let mut notices = [Notice {
-        amount: 0,
-        reference: 0,
-        mandatory: false,
-    }; 6];
-    let mut claims = [0; 6];
-    let mut gifts = [0; 6];
-    let mut out = Vec::new(rt.alloc());
-    play_file(
-        &mut places,
+    Ok(file)
+}
+
+const NO_ORDER: Row = Row {
+    number: 0,
+    kind: Kind::Crowd,
+    side: Side::Buy,
+    marked: false,
+    price: 0,
+    size: 0,
+    filled: 0,
+};
+
+const NO_NOTICE: Notice = Notice {
+    amount: 0,
+    reference: 0,
+    mandatory: false,
+};
+
+// Both tapes in memory; and no more than a beginning where there is no place for the whole.
+#[test]
+fn tapes_in_memory(rt: HostRuntime) -> Result<(), Fail> {
+    let file = sample_file(rt.alloc())?;
+    let (mut order_places, mut notice_places) = ([NO_ORDER; 6], [NO_NOTICE; 6]);
+    let mut orders = List::new(&mut order_places);
+    let mut notices = List::new(&mut notice_places);
+    let (mut claims, mut gifts) = ([0; 6], [0; 6]);
+    let mut bytes = [0; 512];
+    let mut output = Memory::new(&mut bytes);
+    let arrival = play_in_memory(
+        &file,
+        &mut output,
+        &mut orders,
         &mut notices,
+        &ByArrival,
         &mut claims,
         &mut gifts,
-        ByArrival,
+    );
+    let turns = play_in_memory(
         &file,
-        &mut out,
-    )?;
-    play_file(
-        &mut places,
+        &mut output,
+        &mut orders,
         &mut notices,
+        &ByTurns,
         &mut claims,
         &mut gifts,
-        ByTurns,
-        &file,
-        &mut out,
-    )?;
-    assert!(rt; out.as_slice() == TAPES.as_bytes());
-    let mut played = Vec::new(rt.alloc());
-    let arrival = play_between(rt.alloc(), &mut file.as_slice(), &mut played, ByArrival);
-    let turns = play_between(rt.alloc(), &mut file.as_slice(), &mut played, ByTurns);
+    );
     assert!(rt; arrival.is_ok() && turns.is_ok());
-    assert!(rt; played.as_slice() == TAPES.as_bytes());
+    assert!(rt; output.written() == TAPES.as_bytes());
+    assert_eq!(rt; orders.len(), 4);
+    for (row, filled) in orders.elements().iter().zip([1000, 300, 500, 200]) {
+        assert_eq!(rt; row.filled, filled);
+    }
+    let mut few = [0; 9];
+    let mut output = Memory::new(&mut few);
+    let stopped = play_in_memory(
+        &file,
+        &mut output,
+        &mut orders,
+        &mut notices,
+        &ByArrival,
+        &mut claims,
+        &mut gifts,
+    );
+    assert!(rt; matches!(stopped, Err(Trouble::Output(_))));
+    assert!(rt; output.written() == "U 1\nR 7 3".as_bytes());
+    Ok(())
+}
+
+// A run that is offered seven bytes at a time; after the P line each call answers an F line and takes no byte.
+#[test]
+fn lines_one_by_one(rt: HostRuntime) -> Result<(), Fail> {
+    let file = sample_file(rt.alloc())?;
+    let (mut order_places, mut notice_places) = ([NO_ORDER; 6], [NO_NOTICE; 6]);
+    let mut orders = List::new(&mut order_places);
+    let mut notices = List::new(&mut notice_places);
+    let (mut claims, mut gifts) = ([0; 6], [0; 6]);
+    let mut run = Run::open(&mut orders, &mut notices);
+    let mut tape = Vec::new(rt.alloc());
+    let mut rest = file.as_slice();
+    for _ in 0..100 {
+        let piece = &rest[..rest.len().min(7)];
+        let next = run.advance(
+            &mut orders,
+            &mut notices,
+            &ByArrival,
+            &mut claims,
+            &mut gifts,
+            piece,
+        );
+        rest = &rest[next.taken..];
+        if let Some(line) = next.line {
+            let fills = matches!(line, Line::Fill { .. });
+            assert!(rt; !fills || next.taken == 0);
+            tape.extend_from_slice(line.text().as_str().as_bytes())?;
+        }
+    }
+    assert!(rt; rest.is_empty());
+    assert!(rt; run.finish(&orders).is_none());
+    assert!(rt; run.is_over());
+    assert!(rt; TAPES.as_bytes().starts_with(&tape));
+    assert_eq!(rt; tape.len(), 85);
+    Ok(())
+}
+
+/// An input that is interrupted before each read, brings seven bytes at a time, and fails after `left` bytes.
+#[derive(Drop)]
+struct Failing<'a> {
+    rest: &'a [u8],
+    left: usize,
+    interrupts: bool,
+}
+
+impl Source for Failing<'_> {
+    ghost input = { λ _. record { bytes = None; may_fail = true } };
+
+    fn read(&mut self, piece: &mut [u8]) -> io::Result<usize> {
+        self.interrupts = !self.interrupts;
+        if self.interrupts {
+            return Err(io::Error::from(ErrorKind::Interrupted));
+        }
+        if self.left == 0 {
+            return Err(io::Error::from(ErrorKind::BrokenPipe));
+        }
+        let count = piece.len().min(7).min(self.left).min(self.rest.len());
+        piece[..count].copy_from_slice(&self.rest[..count]);
+        self.rest = &self.rest[count..];
+        self.left -= count;
+        Ok(count)
+    }
+}
+
+/// An output that is interrupted before each write, takes three bytes at a time, and fails after `left` bytes.
+#[derive(Drop)]
+struct Choking {
+    taken: [u8; 200],
+    count: usize,
+    left: usize,
+    interrupts: bool,
+}
+
+impl Sink for Choking {
+    ghost output = { λ _. record { bytes = None; room = None } };
+
+    fn write(&mut self, bytes: &[u8]) -> io::Result<usize> {
+        self.interrupts = !self.interrupts;
+        if self.interrupts {
+            return Err(io::Error::from(ErrorKind::Interrupted));
+        }
+        if self.left == 0 {
+            return Err(io::Error::from(ErrorKind::BrokenPipe));
+        }
+        let free = self.taken.len().saturating_sub(self.count);
+        let count = bytes.len().min(3).min(self.left).min(free);
+        let end = self.count.saturating_add(count);
+        if let Some(places) = self.taken.get_mut(self.count..end) {
+            places.copy_from_slice(&bytes[..count]);
+        }
+        self.count = end;
+        self.left -= count;
+        Ok(count)
+    }
+
+    fn flush(&mut self) -> io::Result<()> {
+        Ok(())
+    }
+}
+
+// Interrupted reads and writes go on; a read or a write that fails is told as what it is, and what was due before is written.
+#[test]
+fn ends_that_fail(rt: HostRuntime) -> Result<(), Fail> {
+    let file = sample_file(rt.alloc())?;
+    // The bytes that the input brings and the output takes, whether the input or the output fails, and how much is written.
+    for (brings, takes, input_fails, output_fails, written) in [
+        (1000, 1000, false, false, 85),
+        (117, 1000, true, false, 13),
+        (1000, 20, false, true, 20),
+        (2, 0, true, false, 0),
+    ] {
+        let mut input = Failing {
+            rest: &file,
+            left: brings,
+            interrupts: false,
+        };
+        let mut output = Choking {
+            taken: [0; 200],
+            count: 0,
+            left: takes,
+            interrupts: false,
+        };
+        let played = play_between(&mut input, &mut output, &ByArrival);
+        assert_eq!(rt; matches!(played, Err(Trouble::Input(_))), input_fails);
+        assert_eq!(rt; matches!(played, Err(Trouble::Output(_))), output_fails);
+        assert_eq!(rt; output.count, written);
+        assert!(rt; TAPES.as_bytes().starts_with(&output.taken[..written]));
+    }
+    Ok(())
+}
+
+// Between a reader and a writer of the library, on the places of a program.
+#[test]
+fn tapes_between_library_ends(rt: HostRuntime) -> Result<(), Fail> {
+    let file = sample_file(rt.alloc())?;
+    let mut output = Writer(Vec::new(rt.alloc()));
+    let arrival = play_between(&mut Reader(file.as_slice()), &mut output, &ByArrival);
+    let turns = play_between(&mut Reader(file.as_slice()), &mut output, &ByTurns);
+    assert!(rt; arrival.is_ok() && turns.is_ok());
+    assert!(rt; output.0.as_slice() == TAPES.as_bytes());
     Ok(())
 }

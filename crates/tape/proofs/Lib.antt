@@ -1,6 +1,8 @@
-pub mod Anywhere
-pub mod Feeding
-pub mod Cutting
-pub mod Playing
-pub mod Upholding
+pub mod Taking
+pub mod Pieces
+pub mod Alike
 pub mod Reading
+pub mod Upholding
+pub mod Sendings
+pub mod Playing
+pub mod Whole

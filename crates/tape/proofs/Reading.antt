@@ -1,5 +1,6 @@
 -- A whole tape is read back from its bytes. Assumes nothing.
 use Rattle.std.proofs.Common.{◌≡◌, List, [], ◌∷◌, ◌++◌, refl, sym}
+use Rattle.std.proofs.lemmas.Grind.{flat_map-append}
 use Rattle.std.proofs.lemmas.List.Elements.{All-head, All-tail}
 use Rattle.line.specs.declared.Line.{Line}
 use Rattle.line.specs.declared.Line.TheVariants.{Lot, Notice, Print, Fill, Refusal}
@@ -15,6 +16,10 @@ no_bytes (Notice message amount reference) lines e = cc
 no_bytes (Print price volume) lines e = cc
 no_bytes (Fill number side filled unfilled) lines e = cc
 no_bytes (Refusal message fault) lines e = cc
+
+-- the bytes of lines and then of more
+pub texts-append : (xs ys : List Line) → texts (xs ++ ys) ≡ texts xs ++ texts ys
+texts-append xs ys = flat_map-append line_text xs ys
 
 -- lines are read back one after another
 pub read_back : ReadBack

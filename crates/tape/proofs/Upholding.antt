@@ -36,6 +36,8 @@ use Rattle.line.specs.declared.Line.{Line}
 use Rattle.line.specs.declared.Line.TheVariants.{Lot, Notice, Print, Fill, Refusal}
 use Rattle.tape.specs.Files.{mark, version, begin_with, body_of, is_message, messages_of}
 use Rattle.tape.specs.Messages.{Reading, MessageReply, of_session, of_message, reply_to, reply_to_reading, stage_after_reading, stage_left, fill_line, rows_at, lines_of, lines_at}
+use Rattle.life.proofs.Living.{opens}
+use Rattle.tape.specs.Places.{Places, blank_lists, opening}
 use Rattle.tape.specs.Tapes.{message_lines, lines_after_header, lines_of_file}
 use Rattle.tape.specs.Upheld.{refuses, refuses_with, is_of_close, accepted_on, refused_on, close_price, is_close, noted_message, fill_lines, handled, handled_after_header, messages_in, UpheldMessage, Closed, EachUpheld, UpheldTape}
 
@@ -438,7 +440,8 @@ module _ (lot : ℕ) (meaning : ℕ → List ℕ → List ℕ) where
     after_header_upheld st o (Err fault) asks =
         (λ none. refl, λ k q other high. rw (ne_eqb (file_question fault) q (λ e. omega (arith, high, e, asks)), and_right (eqb 0 k) false refl) refl)
 
--- the tape of every file is upheld, where a session has just opened
-pub tape_upheld : (lot : ℕ) (meaning : ℕ → List ℕ → List ℕ) → Divides meaning → (st : Stage) → Opened st.moment
-    → (file : List ℕ) → UpheldTape (messages_in file) (lines_of_file lot meaning st file)
-tape_upheld lot meaning divides st o file = after_header_upheld lot meaning divides st o (body_of file) (of_header file)
+-- the tape of every file is upheld
+pub tape_upheld : (lot : ℕ) (meaning : ℕ → List ℕ → List ℕ) → Divides meaning → (places : Places) (file : List ℕ) → UpheldTape (messages_in file) (lines_of_file lot meaning places file)
+tape_upheld lot meaning divides places file =
+    let l = blank_lists places in
+    after_header_upheld lot meaning divides (opening l) (opens l.orders l.notices l.claims l.gifts) (body_of file) (of_header file)

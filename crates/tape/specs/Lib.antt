@@ -1,6 +1,12 @@
 pub mod Files
 pub mod Messages
+pub mod Places
 pub mod Tapes
+pub mod Upheld
 pub mod Standing
 pub mod Runs
-pub mod Upheld
+pub mod Pieces
+pub mod Ends
+pub mod Memory
+pub mod Sending
+pub mod Played

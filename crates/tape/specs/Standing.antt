@@ -1,18 +1,20 @@
--- Where a run stands in its file, which lines each byte makes due, and which the end. Assumes nothing.
-use Rattle.std.specs.Prelude.{◌≡◌, ℕ, ◌+◌, Bool, true, false, if◌then◌else◌, ◌==◌, List, [], ◌∷◌, ◌++◌, nat_lt, Some, None, Option}
-use Rattle.std.specs.List.{concat}
+-- Where a run stands in its file, what a call of it answers, and where it stands then. Assumes nothing.
+use Rattle.std.specs.Prelude.{ℕ, ◌+◌, Bool, true, false, if◌then◌else◌, ◌==◌, List, [], ◌∷◌, ◌++◌, nat_lt, Some, None, Option, Ok, Err, slice_get, is_some}
+use Rattle.std.specs.Option.{option_map}
+use Rattle.order.specs.declared.kind.Row.{Row}
 use Rattle.life.specs.Stages.{Stage}
 use Rattle.message.specs.declared.fault.FileFault.{FileFault}
 use Rattle.message.specs.declared.fault.FileFault.TheVariants.{NoMark, OtherVersion, NoMessage}
+use Rattle.session.specs.declared.call.Outcome.TheVariants.{Taken, Published, Printed}
 use Rattle.line.specs.declared.Line.{Line}
-use Rattle.line.specs.declared.Line.TheVariants.{Lot, Refusal}
+use Rattle.line.specs.declared.Line.TheVariants.{Lot, Notice, Print, Refusal}
+use Rattle.tape.specs.Files.{is_whole}
+use Rattle.tape.specs.Messages.{FileReply, of_message, reply_to, stage_left, rows_at, fill_line}
 use Rattle.tape.specs.declared.header.Awaited.{Awaited}
 use Rattle.tape.specs.declared.header.Awaited.TheVariants.{C, L, O, High, Low}
-use Rattle.tape.specs.Files.{is_whole}
-use Rattle.tape.specs.Messages.{stage_left, lines_at}
-use Rattle.tape.specs.Tapes.{texts, tape_of}
+use Rattle.tape.specs.declared.run.Advance.{Advance}
 
--- the byte of a header that is awaited: those of mark and version (Files.antt), one after another
+-- the byte of a header that is awaited: those of mark and version, one after another
 abbrev pub header_byte : Awaited → ℕ
 header_byte C = 67
 header_byte L = 76
@@ -36,78 +38,116 @@ header_fault O = NoMark
 header_fault High = OtherVersion
 header_fault Low = OtherVersion
 
--- where a run stands: in the header, of which a byte is awaited; in a message, with its number and the bytes of it that have come; or at the end,
--- after a refusal of the file
+-- where a run stands: in the header, of which a byte is awaited; in a message, with its number and the bytes of it that have come; or at the end
 pub data Place : Type 0 where
   in_header : Awaited → Place
   in_message : ℕ → List ℕ → Place
   over : Place
 
--- the place, and what the messages so far have left
-pub record Standing : Type 0 where
+-- the place, and the place of the order whose F line is the next one, while those of a close are due
+pub record Spot : Type 0 where
   pub place : Place
+  pub fills : Option ℕ
+
+-- the spot, and what the messages so far have left
+pub record Standing : Type 0 where
+  pub spot : Spot
   pub stage : Stage
 
--- a standing, and the lines that became due on the way to it
-pub record Due : Type 0 where
-  pub lines : List Line
+-- a line or none, and where the run stands then
+pub record Turn : Type 0 where
+  pub line : Option Line
   pub standing : Standing
 
--- these lines are due, and the run then stands here, at this stage
-abbrev pub due : List Line → Place → Stage → Due
-due lines place stage = record { lines = lines; standing = record { place = place; stage = stage } }
+-- what a call answers, and where the run stands then
+pub record Advanced : Type 0 where
+  pub answer : Advance
+  pub standing : Standing
+
+abbrev pub turn : Option Line → Standing → Turn
+turn line s = record { line = line; standing = s }
+
+abbrev pub at : Place → Option ℕ → Stage → Standing
+at place fills st = record { spot = record { place = place; fills = fills }; stage = st }
+
+abbrev pub advanced_by : ℕ → Turn → Advanced
+advanced_by taken t = record { answer = record { taken = taken; line = t.line }; standing = t.standing }
+
+-- the same, and some bytes before it
+abbrev pub further : ℕ → Advanced → Advanced
+further n a = record { answer = record { taken = n + a.answer.taken; line = a.answer.line }; standing = a.standing }
+
+-- the place is another one
+abbrev pub placed : Standing → Place → Standing
+placed s place = at place s.spot.fills s.stage
+
+-- the F line that is due, or none where none is due any more; and the place of the order whose F line is the next one
+abbrev pub due_fill : Option ℕ → List Row → Option Line
+due_fill None rows = None
+due_fill (Some k) rows = option_map fill_line (slice_get rows k)
+
+abbrev pub next_fills : Option ℕ → List Row → Option ℕ
+next_fills None rows = None
+next_fills (Some k) rows = option_map (λ row. k + 1) (slice_get rows k)
+
+abbrev pub filled : Standing → Turn
+filled s = turn (due_fill s.spot.fills (rows_at s.stage)) (at s.spot.place (next_fills s.spot.fills (rows_at s.stage)) s.stage)
+
+-- the first line of message n that is answered so; and whether F lines follow
+abbrev pub first_line : ℕ → FileReply → Option Line
+first_line n (Ok Taken) = None
+first_line n (Ok (Published notice)) = Some (Notice n notice.amount notice.reference)
+first_line n (Ok (Printed print)) = Some (Print print.price print.volume)
+first_line n (Err fault) = Some (Refusal n fault)
+
+abbrev pub fills_after : FileReply → Option ℕ
+fills_after (Ok Taken) = None
+fills_after (Ok (Published notice)) = None
+fills_after (Ok (Printed print)) = Some 0
+fills_after (Err fault) = None
 
 -- closes are shared by a method of this lot and this meaning
 module _ (lot : ℕ) (meaning : ℕ → List ℕ → List ℕ) where
   -- the awaited byte of the header has come: the next one is awaited, or the header is good, and message 1 comes
-  abbrev pub due_after_header_byte : Stage → Option Awaited → Due
-  due_after_header_byte st (Some next) = due [] (in_header next) st
-  due_after_header_byte st None = due (Lot lot ∷ []) (in_message 1 []) st
+  abbrev pub after_header_byte : Standing → Option Awaited → Turn
+  after_header_byte s (Some next) = turn None (placed s (in_header next))
+  after_header_byte s None = turn (Some (Lot lot)) (placed s (in_message 1 []))
 
   -- a byte comes where one of the header is awaited
-  abbrev pub due_in_header : Stage → Awaited → ℕ → Due
-  due_in_header st awaited b =
-      (if b == header_byte awaited then due_after_header_byte st (awaited_next awaited)
-      else due (Refusal 0 (header_fault awaited) ∷ []) over st)
+  abbrev pub in_header_byte : Standing → Awaited → ℕ → Turn
+  in_header_byte s awaited b =
+      (if b == header_byte awaited then after_header_byte s (awaited_next awaited)
+      else turn (Some (Refusal 0 (header_fault awaited))) (placed s over))
 
   -- message n is whole
-  abbrev pub due_after_message : Stage → ℕ → List ℕ → Due
-  due_after_message st n bytes = due (lines_at meaning st n bytes) (in_message (n + 1) []) (stage_left meaning st bytes)
+  abbrev pub after_message : Standing → ℕ → List ℕ → Turn
+  after_message s n bytes =
+      let reply = of_message (reply_to s.stage bytes) in
+      turn (first_line n reply) (at (in_message (n + 1) []) (fills_after reply) (stage_left meaning s.stage bytes))
 
   -- a byte comes where those of message n have come
-  abbrev pub due_in_message : Stage → ℕ → List ℕ → ℕ → Due
-  due_in_message st n come b =
-      (if nat_lt 1000000 n then due (Refusal n NoMessage ∷ []) over st
-      else if is_whole (come ++ b ∷ []) then due_after_message st n (come ++ b ∷ [])
-      else due [] (in_message n (come ++ b ∷ [])) st)
+  abbrev pub in_message_byte : Standing → ℕ → List ℕ → ℕ → Turn
+  in_message_byte s n come b =
+      (if nat_lt 1000000 n then turn (Some (Refusal n NoMessage)) (placed s over)
+      else if is_whole (come ++ b ∷ []) then after_message s n (come ++ b ∷ [])
+      else turn None (placed s (in_message n (come ++ b ∷ []))))
 
   -- a byte comes at a place
-  abbrev pub due_in : Stage → Place → ℕ → Due
-  due_in st (in_header awaited) b = due_in_header st awaited b
-  due_in st (in_message n come) b = due_in_message st n come b
-  due_in st over b = due [] over st
+  abbrev pub byte_at : Standing → Place → ℕ → Turn
+  byte_at s (in_header awaited) b = in_header_byte s awaited b
+  byte_at s (in_message n come) b = in_message_byte s n come b
+  byte_at s over b = turn None s
 
-  abbrev pub due_at : Standing → ℕ → Due
-  due_at s b = due_in s.stage s.place b
+  -- bytes come where no F line is due: they are taken until a line is due
+  abbrev pub taken_from : Standing → List ℕ → Advanced
+  taken_from s [] = advanced_by 0 (turn None s)
+  taken_from s (b ∷ bytes) =
+      let t = byte_at s s.spot.place b in
+      (if is_some t.line then advanced_by 1 t else further 1 (taken_from t.standing bytes))
 
-  -- bytes come, one after another
-  abbrev pub due_from : Standing → List ℕ → Due
-  due_from s [] = record { lines = []; standing = s }
-  due_from s (b ∷ bytes) =
-      let first = due_at s b in
-      let rest = due_from first.standing bytes in
-      record { lines = first.lines ++ rest.lines; standing = rest.standing }
-
--- the file ends at a place
-abbrev pub last_lines : Place → List Line
-last_lines (in_header awaited) = Refusal 0 (header_fault awaited) ∷ []
-last_lines (in_message n []) = []
-last_lines (in_message n (c ∷ come)) = Refusal n NoMessage ∷ []
-last_lines over = []
-
--- the file ends
-abbrev pub due_at_end : Standing → Due
-due_at_end s = due (last_lines s.place) over s.stage
+  -- a piece comes: an F line that is due is the answer, before another byte is taken
+  abbrev pub advanced : Standing → List ℕ → Advanced
+  advanced s piece = let t = filled s in (if is_some t.line then advanced_by 0 t else taken_from t.standing piece)
 
 -- whether no more lines become due
 abbrev pub is_over : Place → Bool
@@ -115,16 +155,19 @@ is_over (in_header awaited) = false
 is_over (in_message n come) = false
 is_over over = true
 
--- a run has just begun
-abbrev pub at_start : Stage → Standing
-at_start st = record { place = in_header C; stage = st }
+-- the line that the end makes due at a place
+abbrev pub last_line : Place → Option Line
+last_line (in_header awaited) = Some (Refusal 0 (header_fault awaited))
+last_line (in_message n []) = None
+last_line (in_message n (c ∷ come)) = Some (Refusal n NoMessage)
+last_line over = None
 
-module _ (lot : ℕ) (meaning : ℕ → List ℕ → List ℕ) where
-  -- what is written of pieces of a file, fed one after another, and then of its end
-  abbrev pub written_in_pieces : Standing → List (List ℕ) → List ℕ
-  written_in_pieces s [] = texts (due_at_end s).lines
-  written_in_pieces s (piece ∷ pieces) = texts (due_from lot meaning s piece).lines ++ written_in_pieces (due_from lot meaning s piece).standing pieces
+-- the file ends: an F line that is due is the answer, and then the line that the end makes due
+abbrev pub line_at_end : Spot → List Row → Option Line
+line_at_end spot rows = (if is_some (due_fill spot.fills rows) then due_fill spot.fills rows else last_line spot.place)
 
-  -- however a file is cut into pieces, what is written is its tape
-  abbrev pub WritesTape : Stage → Type 0
-  WritesTape st = (pieces : List (List ℕ)) → written_in_pieces (at_start st) pieces ≡ tape_of lot meaning st (concat pieces)
+abbrev pub spot_at_end : Spot → List Row → Spot
+spot_at_end spot rows = record { place = (if is_some (due_fill spot.fills rows) then spot.place else over); fills = next_fills spot.fills rows }
+
+abbrev pub finished : Standing → Turn
+finished s = turn (line_at_end s.spot (rows_at s.stage)) (record { spot = spot_at_end s.spot (rows_at s.stage); stage = s.stage })

@@ -10,6 +10,7 @@ use Rattle.line.specs.Texts.{line_text}
 use Rattle.line.specs.Reading.{OfTypes}
 use Rattle.tape.specs.Files.{body_of, messages_of, is_message}
 use Rattle.tape.specs.Messages.{stage_left, lines_at}
+use Rattle.tape.specs.Places.{Places, blank_lists, opening}
 
 -- the bytes of lines
 abbrev pub texts : List Line → List ℕ
@@ -33,9 +34,14 @@ module _ (lot : ℕ) (meaning : ℕ → List ℕ → List ℕ) where
   lines_after_header st (Ok bytes) = Lot lot ∷ message_lines st 1 (messages_of bytes)
   lines_after_header st (Err fault) = Refusal 0 fault ∷ []
 
-  abbrev pub lines_of_file : Stage → List ℕ → List Line
-  lines_of_file st file = lines_after_header st (body_of file)
+  -- those of a file whose session has opened at this stage
+  abbrev pub lines_from_opening : Stage → List ℕ → List Line
+  lines_from_opening st file = lines_after_header st (body_of file)
+
+  -- the lines of a file depend on how many places the session is lent, and on nothing that these held
+  abbrev pub lines_of_file : Places → List ℕ → List Line
+  lines_of_file places file = lines_from_opening (opening (blank_lists places)) file
 
   -- the tape of a file
-  abbrev pub tape_of : Stage → List ℕ → List ℕ
-  tape_of st file = texts (lines_of_file st file)
+  abbrev pub tape_of : Places → List ℕ → List ℕ
+  tape_of places file = texts (lines_of_file places file)

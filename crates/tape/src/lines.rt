@@ -1,49 +1,18 @@
-// The lines of a message, at the end of the output.
-ghost use Rattle.std.specs.Prelude.{◌≡◌, ◌+◌, ◌*◌, ◌≤◌, ◌++◌, if◌then◌else◌, length, map, is_ok, IsOk, vec_len, vec_capacity};
-ghost use Rattle.line.specs.Texts.{line_text};
-ghost use Rattle.tape.specs.Messages.{fill_line, lines_of};
-ghost use Rattle.tape.specs.Tapes.{texts};
+// The lines of a message.
+ghost use Rattle.std.specs.Prelude.{◌≡◌, IfSome};
+ghost use Rattle.line.specs.Reading.{OfTypes};
+ghost use Rattle.tape.specs.Messages.{fill_line};
+ghost use Rattle.tape.specs.Standing.{first_line, fills_after};
 
 use line::Line;
 use message::FileFault;
 use order::Row;
 use session::Outcome;
-use std::alloc::AllocError;
-
-/// Writes a line. Refuses, and writes nothing, for want of memory.
-pub(crate) fn write_line(out: &mut Vec<u8>, line: Line) -> Result<(), AllocError>
-    ensures after { out.new.items ≡ (if is_ok result then out.old.items ++ line_text line else out.old.items) }
-    ensures succeeds { vec_len out.old + 64 ≤ vec_capacity out.old → IsOk result }
-    ensures capacity { vec_capacity out.old ≤ vec_capacity out.new }
-{
-    out.extend_from_slice(line.text().as_str().as_bytes())
-}
-
-/// Writes a line, for which there is room.
-fn append(out: &mut Vec<u8>, line: Line)
-    requires { vec_len out.old + 64 ≤ vec_capacity out.old }
-    ensures after { out.new.items ≡ out.old.items ++ line_text line }
-    ensures len { vec_len out.new ≤ vec_len out.old + 64 }
-    ensures capacity { vec_capacity out.old ≤ vec_capacity out.new }
-{
-    out.extend_from_slice(line.text().as_str().as_bytes())
-        .unwrap();
-}
-
-/// Writes a line for each order, for which there is room.
-fn append_fills(out: &mut Vec<u8>, orders: &[Row])
-    requires { vec_len out.old + 64 * length orders.now ≤ vec_capacity out.old }
-    ensures after { out.new.items ≡ out.old.items ++ texts (map fill_line orders.now) }
-    ensures capacity { vec_capacity out.old ≤ vec_capacity out.new }
-{
-    for row in orders {
-        append(out, fill_line(*row));
-    }
-}
 
 /// The line of an order.
-fn fill_line(row: Row) -> Line
+pub(crate) fn fill_line(row: Row) -> Line
     ensures value { result ≡ fill_line row }
+    ensures types { OfTypes result }
 {
     Line::Fill {
         number: row.number,
@@ -53,43 +22,35 @@ fn fill_line(row: Row) -> Line
     }
 }
 
-/// Writes the lines of message `number`, answered so, where the orders then lie in these rows. There is room for a line and one for each order.
-pub(crate) fn append_reply(
-    out: &mut Vec<u8>,
-    number: u32,
-    reply: Result<Outcome, FileFault>,
-    orders: &[Row],
-)
-    requires { vec_len out.old + 64 * (1 + length orders.now) ≤ vec_capacity out.old }
-    ensures after { out.new.items ≡ out.old.items ++ texts (lines_of number reply orders.now) }
-    ensures capacity { vec_capacity out.old ≤ vec_capacity out.new }
+/// The first line of message `number` that is answered so, or none.
+pub(crate) fn first_line(number: u32, reply: Result<Outcome, FileFault>) -> Option<Line>
+    ensures value { result ≡ first_line number reply }
+    ensures types { IfSome result OfTypes }
 {
     match reply {
-        Ok(Outcome::Taken) => {}
-        Ok(Outcome::Published(notice)) => append(
-            out,
-            Line::Notice {
-                message: number,
-                amount: notice.amount,
-                reference: notice.reference,
-            },
-        ),
-        Ok(Outcome::Printed(print)) => {
-            append(
-                out,
-                Line::Print {
-                    price: print.price,
-                    volume: print.volume,
-                },
-            );
-            append_fills(out, orders);
-        }
-        Err(fault) => append(
-            out,
-            Line::Refusal {
-                message: number,
-                fault,
-            },
-        ),
+        Ok(Outcome::Taken) => None,
+        Ok(Outcome::Published(notice)) => Some(Line::Notice {
+            message: number,
+            amount: notice.amount,
+            reference: notice.reference,
+        }),
+        Ok(Outcome::Printed(print)) => Some(Line::Print {
+            price: print.price,
+            volume: print.volume,
+        }),
+        Err(fault) => Some(Line::Refusal {
+            message: number,
+            fault,
+        }),
+    }
+}
+
+/// The place of the order whose F line follows such an answer, where one may.
+pub(crate) fn fills_after(reply: Result<Outcome, FileFault>) -> Option<usize>
+    ensures value { result ≡ fills_after reply }
+{
+    match reply {
+        Ok(Outcome::Printed(_)) => Some(0),
+        Ok(Outcome::Taken | Outcome::Published(_)) | Err(_) => None,
     }
 }

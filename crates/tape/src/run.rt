@@ -1,28 +1,31 @@
-// A run of a file: it is fed the file piece by piece, as it comes, and writes the lines that are due.
-ghost use Rattle.std.specs.Prelude.{◌≡◌, ◌≤◌, [], ◌∷◌, ◌++◌, List, ℕ, MatchResult, IfSome, ◌<◌, ◌+◌, IsOk, vec_len, vec_capacity, length, take};
+// A run of a file: it takes the file piece by piece, as it comes, and answers the lines that are due, one at a call.
+ghost use Rattle.std.specs.Prelude.{◌≡◌, ◌≤◌, ◌<◌, ℕ, List as Elements, [], length, take, None, IfSome};
+ghost use Rattle.life.specs.Stages.{Stage};
 ghost use Rattle.line.specs.declared.Line.TheVariants.{Refusal};
+ghost use Rattle.line.specs.Reading.{OfTypes};
+ghost use Rattle.list.specs.Held.{kept};
+ghost use Rattle.sharing.specs.Shares.{Divides};
+ghost use Rattle.tape.specs.declared.run.Place.TheVariants.{Over};
 ghost use Rattle.tape.specs.Messages.{reply_to, of_message, stage_left};
-ghost use Rattle.tape.specs.Runs.{stage_of, stage_on, standing_of, if_written, HasRoom, Took, Stopped};
-ghost use Rattle.tape.specs.Standing.{in_message, over, at_start, is_over, due, due_at, due_in_header, due_in_message, due_after_message, due_from, due_at_end, WritesTape};
-ghost use Rattle.tape.specs.Tapes.{texts, ReadBack, lines_of_file};
+ghost use Rattle.tape.specs.Pieces.{AnswersEachFile};
+ghost use Rattle.tape.specs.Places.{lists, opening, places_of};
+ghost use Rattle.tape.specs.Runs.{place_of, spot_of, session_of, stage_of, standing, opened_at};
+ghost use Rattle.tape.specs.Standing.{in_message, turn, due_fill, next_fills, after_message, in_message_byte, in_header_byte, byte_at, taken_from, advanced, is_over, last_line, line_at_end, spot_at_end};
+ghost use Rattle.tape.specs.Tapes.{ReadBack, lines_of_file};
 ghost use Rattle.tape.specs.Upheld.{messages_in, UpheldTape};
 
 use crate::begun::Begun;
 use crate::header::Awaited;
-use crate::lines::{append_reply, write_line};
-use crate::open_session::OpenSession;
-use line::{Line, MOST};
-use message::FileFault;
+use crate::lines::{fill_line, fills_after, first_line};
+use line::Line;
+use list::List;
+use message::{FileFault, MessageFault, decode};
 use order::Row;
-use session::{Notice, Outcome};
+use session::{Call, Notice, Outcome, Session, SessionFault};
 use sharing::Sharing;
-use std::alloc::AllocError;
 
 /// The number of the last message that a file may have.
 const LAST: u32 = 1_000_000;
-
-/// Room for the lines of any message: one, and one for each order that a list can hold.
-const ROOM: usize = MOST * (1 + list::MOST);
 
 /// Where a run stands in its file.
 #[derive(Clone, Copy, PartialEq, Eq, Debug)]
@@ -35,61 +38,84 @@ enum Place {
     Over,
 }
 
-/// A run of a file. It owns the session of the file, and is lent the places of its lists and the two work lists.
-#[derive(Drop)]
-pub struct Run<'a, S> {
-    session: OpenSession<'a, S>,
-    place: Place,
-    begun: Begun,
+/// How many bytes of a piece were taken, and the line that is due then, or none where all were taken.
+#[derive(Clone, Copy, PartialEq, Eq, Debug)]
+pub struct Advance {
+    pub taken: usize,
+    pub line: Option<Line>,
 }
 
-impl<'a, S: Sharing> Run<'a, S> {
-    /// Begins a run with a session that opens on these places, and whose close is shared by `method`.
-    pub fn open(
-        order_places: &'a mut [Row],
-        notice_places: &'a mut [Notice],
-        claims: &'a mut [u32],
-        gifts: &'a mut [u32],
-        method: S,
-    ) -> Run<'a, S>
-        ensures value { standing_of result ≡ at_start (stage_on order_places.entry.now notice_places.entry.now claims.entry.now gifts.entry.now) }
-        ensures method { result.session.method ≡ method }
-        ensures tape { WritesTape S.LOT (S.meaning method) (stage_on order_places.entry.now notice_places.entry.now claims.entry.now gifts.entry.now) }
-        ensures upheld { (file : List ℕ) → UpheldTape (messages_in file) (lines_of_file S.LOT (S.meaning method) (stage_on order_places.entry.now notice_places.entry.now claims.entry.now gifts.entry.now) file) }
+/// A run of a file: the session, where the run stands in the file, and the bytes of a message that has begun. Each call is lent the two lists, and
+/// `advance` the method and the two work lists besides. None of them can refuse.
+#[derive(Drop, Debug)]
+pub struct Run {
+    session: Session,
+    place: Place,
+    begun: Begun,
+    /// The place of the order whose F line is the next one, while those of a close are due.
+    fills: Option<usize>,
+}
+
+impl Run {
+    /// Begins a run with a session that opens on these lists, which are then empty.
+    pub fn open(orders: &mut List<Row>, notices: &mut List<Notice>) -> Run
+        ensures value { (claims gifts : Elements ℕ) → standing result orders.new notices.new claims gifts ≡ opened_at (opening (lists orders.old notices.old claims gifts)) }
+        ensures pieces { (lot : ℕ) (meaning : _) → Divides meaning → (claims gifts : Elements ℕ) →
+            AnswersEachFile lot meaning (standing result orders.new notices.new claims gifts) (places_of (lists orders.old notices.old claims gifts)) }
+        ensures upheld { (lot : ℕ) (meaning : _) → Divides meaning → (claims gifts file : Elements ℕ) →
+            UpheldTape (messages_in file) (lines_of_file lot meaning (places_of (lists orders.old notices.old claims gifts)) file) }
         ensures readable { ReadBack }
     {
         Run {
-            session: OpenSession::open(order_places, notice_places, claims, gifts, method),
+            session: Session::open(orders, notices),
             place: Place::Header(Awaited::C),
             begun: Begun::new(),
+            fills: None,
         }
     }
 
-    /// Takes the next bytes of the file, however many, and writes the lines that they make due. For want of memory it stops before some byte for
-    /// whose lines it was given no room: what was written stays, and so does what the bytes before have left. Room for all that it is to write
-    /// and for 262,208 bytes more suffices.
-    pub fn feed(&mut self, piece: &[u8], out: &mut Vec<u8>) -> Result<(), AllocError>
-        ensures cases { MatchResult result
-            (λ _. Took (due_from S.LOT (S.meaning self.old.session.method) (standing_of self.old) piece.now) (standing_of self.new) out.old.items out.new.items)
-            (λ _. Stopped S.LOT (S.meaning self.old.session.method) (standing_of self.old) piece.now (standing_of self.new) out.old.items out.new.items) }
-        ensures method { self.new.session.method ≡ self.old.session.method }
-        ensures succeeds { HasRoom (due_from S.LOT (S.meaning self.old.session.method) (standing_of self.old) piece.now).lines out.old → IsOk result }
-        ensures capacity { vec_capacity out.old ≤ vec_capacity out.new }
+    /// Takes bytes of a piece of the file until a line is due, or until all are taken, and answers how many it took, and the line. After the P
+    /// line of a close each call answers an F line of it and takes no byte, until none is left.
+    pub fn advance<S: Sharing>(
+        &mut self,
+        orders: &mut List<Row>,
+        notices: &mut List<Notice>,
+        method: &S,
+        claims: &mut [u32],
+        gifts: &mut [u32],
+        piece: &[u8],
+    ) -> Advance
+        ensures value { result ≡ (advanced S.LOT (S.meaning method.now) (standing self.old orders.old notices.old claims.old gifts.old) piece.now).answer }
+        ensures after { standing self.new orders.new notices.new claims.new gifts.new
+            ≡ (advanced S.LOT (S.meaning method.now) (standing self.old orders.old notices.old claims.old gifts.old) piece.now).standing }
+        ensures types { IfSome result.line OfTypes }
+        ensures within { result.taken ≤ length piece.now }
+        ensures all { result.line ≡ None → result.taken ≡ length piece.now }
     {
-        let mut rest = piece;
-        while !rest.is_empty() {
-            if self.is_over() {
-                break;
-            }
-            let taken = self.take(rest, out)?;
-            rest = &rest[taken..];
+        let fill = self.next_fill(orders);
+        if fill.is_some() {
+            return Advance {
+                taken: 0,
+                line: fill,
+            };
         }
-        Ok(())
+        let mut taken = 0;
+        while taken < piece.len() {
+            let more = self.take(orders, notices, method, claims, gifts, &piece[taken..]);
+            taken += more.taken;
+            if more.line.is_some() {
+                return Advance {
+                    taken,
+                    line: more.line,
+                };
+            }
+        }
+        Advance { taken, line: None }
     }
 
     /// Whether no more lines become due: the file was refused, or has ended.
     pub fn is_over(&self) -> bool
-        ensures value { result ≡ is_over (standing_of self.now).place }
+        ensures value { result ≡ is_over (spot_of self.now).place }
     {
         match self.place {
             Place::Over => true,
@@ -97,53 +123,97 @@ impl<'a, S: Sharing> Run<'a, S> {
         }
     }
 
-    /// Says that the file ends here, and writes the line that this makes due; the run is over then. Refuses, and changes nothing, for want of
-    /// memory.
-    pub fn finish(&mut self, out: &mut Vec<u8>) -> Result<(), AllocError>
-        ensures after { standing_of self.new ≡ if_written result (due_at_end (standing_of self.old)).standing (standing_of self.old) }
-        ensures out { out.new.items ≡ if_written result (out.old.items ++ texts (due_at_end (standing_of self.old)).lines) out.old.items }
-        ensures method { self.new.session.method ≡ self.old.session.method }
-        ensures succeeds { vec_len out.old + 64 ≤ vec_capacity out.old → IsOk result }
-        ensures capacity { vec_capacity out.old ≤ vec_capacity out.new }
+    /// Says that the file ends here, and answers the line that is due, or none. The run is over when it has answered none.
+    pub fn finish(&mut self, orders: &List<Row>) -> Option<Line>
+        ensures types { IfSome result OfTypes }
+        ensures value { result ≡ line_at_end (spot_of self.old) (kept orders.now) }
+        ensures after { spot_of self.new ≡ spot_at_end (spot_of self.old) (kept orders.now) }
+        ensures session { session_of self.new ≡ session_of self.old }
     {
-        match self.place {
-            Place::Header(awaited) => self.end(0, awaited.fault(), out),
-            Place::Messages(number) => {
-                if self.begun.is_empty() {
-                    self.place = Place::Over;
-                    return Ok(());
-                }
-                self.end(number, FileFault::NoMessage, out)
+        let fill = self.next_fill(orders);
+        if fill.is_some() {
+            return fill;
+        }
+        let line = self.last_line();
+        self.place = Place::Over;
+        line
+    }
+
+    /// The next F line that is due, or none.
+    fn next_fill(&mut self, orders: &List<Row>) -> Option<Line>
+        ensures types { IfSome result OfTypes }
+        ensures value { result ≡ due_fill self.old.fills (kept orders.now) }
+        ensures after { self.new ≡ record self.old { fills = next_fills self.old.fills (kept orders.now) } }
+    {
+        let next = self.fills?;
+        match orders.get(next) {
+            Some(row) => {
+                self.fills = Some(next + 1);
+                Some(fill_line(row))
             }
-            Place::Over => Ok(()),
+            None => {
+                self.fills = None;
+                None
+            }
         }
     }
 
-    /// Takes a whole message, where one lies in front and none has begun, or else a byte, and answers how many bytes it took. Refuses, and changes
-    /// nothing, for want of memory.
-    fn take(&mut self, bytes: &[u8], out: &mut Vec<u8>) -> Result<usize, AllocError>
+    /// The line that the end of the file makes due here, or none.
+    fn last_line(&self) -> Option<Line>
+        ensures types { IfSome result OfTypes }
+        ensures value { result ≡ last_line (place_of self.now.place self.now.begun) }
+    {
+        let place = self.place;
+        match place {
+            Place::Header(awaited) => Some(Line::Refusal {
+                message: 0,
+                fault: awaited.fault(),
+            }),
+            Place::Messages(message) => {
+                if self.begun.is_empty() {
+                    return None;
+                }
+                Some(Line::Refusal {
+                    message,
+                    fault: FileFault::NoMessage,
+                })
+            }
+            Place::Over => None,
+        }
+    }
+
+    /// Takes a whole message, where one lies in front and none has begun, or else a byte, or all where the run is over.
+    fn take<S: Sharing>(
+        &mut self,
+        orders: &mut List<Row>,
+        notices: &mut List<Notice>,
+        method: &S,
+        claims: &mut [u32],
+        gifts: &mut [u32],
+        bytes: &[u8],
+    ) -> Advance
         requires { 0 < length bytes.now }
-        ensures cases { MatchResult result
-            (λ taken. (0 < taken) × (taken ≤ length bytes.now)
-            × Took (due_from S.LOT (S.meaning self.old.session.method) (standing_of self.old) (take taken bytes.now)) (standing_of self.new) out.old.items out.new.items)
-            (λ _. (standing_of self.new ≡ standing_of self.old) × (out.new.items ≡ out.old.items)) }
-        ensures method { self.new.session.method ≡ self.old.session.method }
-        ensures succeeds { HasRoom [] out.old → IsOk result }
-        ensures capacity { vec_capacity out.old ≤ vec_capacity out.new }
+        ensures types { IfSome result.line OfTypes }
+        ensures some { 0 < result.taken }
+        ensures within { result.taken ≤ length bytes.now }
+        ensures value { taken_from S.LOT (S.meaning method.now) (standing self.old orders.old notices.old claims.old gifts.old) (take result.taken bytes.now)
+            ≡ record { answer = result; standing = standing self.new orders.new notices.new claims.new gifts.new } }
     {
         if let Some((message, _)) = bytes.split_first_chunk::<16>() {
             if let Some(number) = self.whole_message_next() {
-                self.take_message(number, message, out)?;
-                return Ok(16);
+                let line = self.take_message(
+                    orders, notices, method, claims, gifts, number, message,
+                );
+                return Advance { taken: 16, line };
             }
         }
-        self.take_byte(bytes[0], out)?;
-        Ok(1)
+        let line = self.take_byte(orders, notices, method, claims, gifts, bytes[0]);
+        Advance { taken: 1, line }
     }
 
     /// The number of the message that comes, where no byte of it has come and it is not past the last; or none.
     fn whole_message_next(&self) -> Option<u32>
-        ensures at { IfSome result (λ number. ((standing_of self.now).place ≡ in_message number []) × (number ≤ 1000000)) }
+        ensures at { IfSome result (λ number. (place_of self.now.place self.now.begun ≡ in_message number []) × (number ≤ 1000000)) }
     {
         match self.place {
             Place::Messages(number) if number <= LAST && self.begun.is_empty() => Some(number),
@@ -151,118 +221,150 @@ impl<'a, S: Sharing> Run<'a, S> {
         }
     }
 
-    /// Takes a byte. Refuses, and changes nothing, for want of memory.
-    fn take_byte(&mut self, byte: u8, out: &mut Vec<u8>) -> Result<(), AllocError>
-        ensures after { standing_of self.new ≡ if_written result (due_at S.LOT (S.meaning self.old.session.method) (standing_of self.old) byte).standing (standing_of self.old) }
-        ensures out { out.new.items ≡ if_written result (out.old.items ++ texts (due_at S.LOT (S.meaning self.old.session.method) (standing_of self.old) byte).lines) out.old.items }
-        ensures method { self.new.session.method ≡ self.old.session.method }
-        ensures succeeds { HasRoom [] out.old → IsOk result }
-        ensures capacity { vec_capacity out.old ≤ vec_capacity out.new }
+    /// Takes a byte, and answers the line that is due then, or none.
+    fn take_byte<S: Sharing>(
+        &mut self,
+        orders: &mut List<Row>,
+        notices: &mut List<Notice>,
+        method: &S,
+        claims: &mut [u32],
+        gifts: &mut [u32],
+        byte: u8,
+    ) -> Option<Line>
+        ensures value { turn result (standing self.new orders.new notices.new claims.new gifts.new)
+            ≡ byte_at S.LOT (S.meaning method.now) (standing self.old orders.old notices.old claims.old gifts.old) (place_of self.old.place self.old.begun) byte }
+        ensures types { IfSome result OfTypes }
     {
         match self.place {
-            Place::Header(awaited) => self.take_in_header(awaited, byte, out),
-            Place::Messages(number) => self.take_in_message(number, byte, out),
-            Place::Over => Ok(()),
+            Place::Header(awaited) => self.take_in_header(S::LOT, awaited, byte),
+            Place::Messages(number) => {
+                self.take_in_message(orders, notices, method, claims, gifts, number, byte)
+            }
+            Place::Over => None,
         }
     }
 
     /// Takes a byte where one of the header is awaited.
-    fn take_in_header(
-        &mut self,
-        awaited: Awaited,
-        byte: u8,
-        out: &mut Vec<u8>,
-    ) -> Result<(), AllocError>
-        ensures after { standing_of self.new ≡ if_written result (due_in_header S.LOT (S.meaning self.old.session.method) (stage_of self.old.session) awaited byte).standing (standing_of self.old) }
-        ensures out { out.new.items ≡ if_written result (out.old.items ++ texts (due_in_header S.LOT (S.meaning self.old.session.method) (stage_of self.old.session) awaited byte).lines) out.old.items }
-        ensures method { self.new.session.method ≡ self.old.session.method }
-        ensures succeeds { HasRoom [] out.old → IsOk result }
-        ensures capacity { vec_capacity out.old ≤ vec_capacity out.new }
+    fn take_in_header(&mut self, lot: u32, awaited: Awaited, byte: u8) -> Option<Line>
+        ensures value { (meaning : _) (orders notices : _) (claims gifts : _) → turn result (standing self.new orders notices claims gifts)
+            ≡ in_header_byte lot meaning (standing self.old orders notices claims gifts) awaited byte }
+        ensures types { IfSome result OfTypes }
     {
         if byte != awaited.byte() {
-            return self.end(0, awaited.fault(), out);
+            return Some(self.end(0, awaited.fault()));
         }
         match awaited.next() {
-            Some(next) => self.place = Place::Header(next),
+            Some(next) => {
+                self.place = Place::Header(next);
+                None
+            }
             None => {
-                write_line(out, Line::Lot(S::LOT))?;
                 self.place = Place::Messages(1);
                 self.begun.clear();
+                Some(Line::Lot(lot))
             }
         }
-        Ok(())
     }
 
     /// Takes a byte where message `number` comes.
-    fn take_in_message(
+    fn take_in_message<S: Sharing>(
         &mut self,
+        orders: &mut List<Row>,
+        notices: &mut List<Notice>,
+        method: &S,
+        claims: &mut [u32],
+        gifts: &mut [u32],
         number: u32,
         byte: u8,
-        out: &mut Vec<u8>,
-    ) -> Result<(), AllocError>
-        ensures after { standing_of self.new ≡ if_written result (due_in_message S.LOT (S.meaning self.old.session.method) (stage_of self.old.session) number self.old.begun byte).standing (standing_of self.old) }
-        ensures out { out.new.items ≡ if_written result (out.old.items ++ texts (due_in_message S.LOT (S.meaning self.old.session.method) (stage_of self.old.session) number self.old.begun byte).lines) out.old.items }
-        ensures method { self.new.session.method ≡ self.old.session.method }
-        ensures succeeds { HasRoom [] out.old → IsOk result }
-        ensures capacity { vec_capacity out.old ≤ vec_capacity out.new }
+    ) -> Option<Line>
+        ensures value { turn result (standing self.new orders.new notices.new claims.new gifts.new)
+            ≡ in_message_byte S.LOT (S.meaning method.now) (standing self.old orders.old notices.old claims.old gifts.old) number self.old.begun byte }
+        ensures types { IfSome result OfTypes }
     {
         if number > LAST {
-            return self.end(number, FileFault::NoMessage, out);
+            return Some(self.end(number, FileFault::NoMessage));
         }
         match self.begun.whole_with(byte) {
-            Some(bytes) => self.take_message(number, &bytes, out),
+            Some(bytes) => {
+                self.take_message(orders, notices, method, claims, gifts, number, &bytes)
+            }
             None => {
                 self.begun.add(byte);
                 self.place = Place::Messages(number);
-                Ok(())
+                None
             }
         }
     }
 
-    /// Takes message `number`. It makes room for its lines before it hands it to the session. Refuses, and changes nothing, for want of memory.
-    fn take_message(
+    /// Takes message `number`, and answers its first line, or none.
+    fn take_message<S: Sharing>(
         &mut self,
+        orders: &mut List<Row>,
+        notices: &mut List<Notice>,
+        method: &S,
+        claims: &mut [u32],
+        gifts: &mut [u32],
         number: u32,
         bytes: &[u8; 16],
-        out: &mut Vec<u8>,
-    ) -> Result<(), AllocError>
+    ) -> Option<Line>
         requires { number ≤ 1000000 }
-        ensures after { standing_of self.new ≡ if_written result (due_after_message S.LOT (S.meaning self.old.session.method) (stage_of self.old.session) number bytes.now).standing (standing_of self.old) }
-        ensures out { out.new.items ≡ if_written result (out.old.items ++ texts (due_after_message S.LOT (S.meaning self.old.session.method) (stage_of self.old.session) number bytes.now).lines) out.old.items }
-        ensures method { self.new.session.method ≡ self.old.session.method }
-        ensures succeeds { HasRoom [] out.old → IsOk result }
-        ensures capacity { vec_capacity out.old ≤ vec_capacity out.new }
+        ensures value { turn result (standing self.new orders.new notices.new claims.new gifts.new)
+            ≡ after_message S.LOT (S.meaning method.now) (standing self.old orders.old notices.old claims.old gifts.old) number bytes.now }
+        ensures types { IfSome result OfTypes }
     {
-        out.reserve(ROOM)?;
-        let reply = self.answer(bytes);
-        append_reply(out, number, reply, self.session.orders());
+        let reply = self.answer(orders, notices, method, claims, gifts, bytes);
         self.place = Place::Messages(number + 1);
         self.begun.clear();
-        Ok(())
+        self.fills = fills_after(reply);
+        first_line(number, reply)
     }
 
     /// Answers a message: as the session does, or with the ground on which the file refuses it.
-    fn answer(&mut self, bytes: &[u8; 16]) -> Result<Outcome, FileFault>
-        ensures value { result ≡ of_message (reply_to (stage_of self.old.session) bytes.now) }
-        ensures after { stage_of self.new.session ≡ stage_left (S.meaning self.old.session.method) (stage_of self.old.session) bytes.now }
-        ensures place { self.new.place ≡ self.old.place }
-        ensures begun { self.new.begun ≡ self.old.begun }
-        ensures method { self.new.session.method ≡ self.old.session.method }
+    fn answer<S: Sharing>(
+        &mut self,
+        orders: &mut List<Row>,
+        notices: &mut List<Notice>,
+        method: &S,
+        claims: &mut [u32],
+        gifts: &mut [u32],
+        bytes: &[u8; 16],
+    ) -> Result<Outcome, FileFault>
+        ensures value { result ≡ of_message (reply_to (stage_of self.old orders.old notices.old claims.old gifts.old) bytes.now) }
+        ensures after { stage_of self.new orders.new notices.new claims.new gifts.new
+            ≡ stage_left (S.meaning method.now) (stage_of self.old orders.old notices.old claims.old gifts.old) bytes.now }
     {
-        let outcome = self.session.handle(bytes)?;
+        let outcome = self.handle(orders, notices, method, claims, gifts, bytes)?;
         Ok(outcome)
     }
 
-    /// Ends the run with a refusal of the file.
-    fn end(&mut self, message: u32, fault: FileFault, out: &mut Vec<u8>) -> Result<(), AllocError>
-        ensures after { standing_of self.new ≡ if_written result (due (Refusal message fault ∷ []) over (stage_of self.old.session)).standing (standing_of self.old) }
-        ensures out { out.new.items ≡ if_written result (out.old.items ++ texts (due (Refusal message fault ∷ []) over (stage_of self.old.session)).lines) out.old.items }
-        ensures method { self.new.session.method ≡ self.old.session.method }
-        ensures succeeds { vec_len out.old + 64 ≤ vec_capacity out.old → IsOk result }
-        ensures capacity { vec_capacity out.old ≤ vec_capacity out.new }
+    /// Carries out the call of a message. Refuses, and changes nothing, when the bytes are no call (4 to 6), or the session refuses the call.
+    fn handle<S: Sharing>(
+        &mut self,
+        orders: &mut List<Row>,
+        notices: &mut List<Notice>,
+        method: &S,
+        claims: &mut [u32],
+        gifts: &mut [u32],
+        bytes: &[u8; 16],
+    ) -> Result<Outcome, MessageFault>
+        ensures value { result ≡ reply_to (stage_of self.old orders.old notices.old claims.old gifts.old) bytes.now }
+        ensures after { stage_of self.new orders.new notices.new claims.new gifts.new
+            ≡ stage_left (S.meaning method.now) (stage_of self.old orders.old notices.old claims.old gifts.old) bytes.now }
     {
-        write_line(out, Line::Refusal { message, fault })?;
+        let call = decode(bytes)?;
+        let outcome = self
+            .session
+            .apply(orders, notices, method, claims, gifts, call)?;
+        Ok(outcome)
+    }
+
+    /// Ends the run with a refusal of the file, and answers its line.
+    fn end(&mut self, message: u32, fault: FileFault) -> Line
+        ensures value { result ≡ Refusal message fault }
+        ensures types { OfTypes result }
+        ensures after { self.new ≡ record self.old { place = Over } }
+    {
         self.place = Place::Over;
-        Ok(())
+        Line::Refusal { message, fault }
     }
 }

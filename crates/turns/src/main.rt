@@ -3,8 +3,12 @@
 
 use player::play;
 use sharing::ByTurns;
+use std::io;
 use std::process::ExitCode;
+use tape::{Reader, Writer};
 
 fn main(rt: HostRuntime) -> ExitCode {
-    play(&rt, "turns", ByTurns)
+    let mut input = Reader(rt.reader());
+    let mut output = Writer(io::writer(&rt));
+    play(&rt, "turns", &mut input, &mut output, &ByTurns)
 }

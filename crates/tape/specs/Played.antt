@@ -1,0 +1,113 @@
+-- What a call that plays a file has read, written and left. Assumes nothing.
+use Rattle.std.specs.Prelude.{◌≡◌, ℕ, Bool, true, false, List, [], ◌++◌, length, All, None, Some, Option, Ok, Err, IfSome, Result, MatchResult}
+use Rattle.std.specs.Io.KnownBytes.{Appends, Consumes}
+use Rattle.order.specs.declared.kind.Row.{Row}
+use Rattle.line.specs.declared.Line.{Line}
+use Rattle.line.specs.Reading.{OfTypes}
+use Rattle.tape.specs.declared.trouble.Trouble.{Trouble}
+use Rattle.tape.specs.declared.trouble.Trouble.TheVariants as trouble
+use Rattle.tape.specs.Ends.{Input, Output, HasRoom}
+use Rattle.tape.specs.Pieces.{FinishesAt, Went, stage_after_file}
+use Rattle.tape.specs.Places.{Lists, Places, opening, lists_at, places_of}
+use Rattle.tape.specs.Sending.{Sends, Breaks}
+use Rattle.tape.specs.Standing.{Spot, Standing}
+use Rattle.tape.specs.Tapes.{texts, lines_of_file, tape_of}
+
+-- what such a call is lent: where the file comes from, where its tape goes, the two lists and the two work lists
+pub record Lent : Type 0 where
+  pub input : Input
+  pub output : Output
+  pub lists : Lists
+
+abbrev pub lent : Input → Output → Lists → Lent
+lent input output lists = record { input = input; output = output; lists = lists }
+
+-- an error is trouble of this sort
+abbrev pub as_trouble : {E : Type 0} → (E → Trouble) → Result (Unit {0}) E → Result (Unit {0}) Trouble
+as_trouble sort (Ok nothing) = Ok nothing
+as_trouble sort (Err error) = Err (sort error)
+
+-- an end is played, with lines held back neither before nor after it
+pub record Finished (spot : Spot) (rows : List Row) (before after : Output) : Type 0 where
+  pub lines : List Line
+  pub types : All OfTypes lines
+  pub all : (last : List Line) → FinishesAt spot rows last → last ≡ lines
+  pub sends : Sends before after [] [] (texts lines)
+
+-- or not to its end
+pub record Unfinished (spot : Spot) (rows : List Row) (before after : Output) : Type 0 where
+  pub lines : List Line
+  pub first : (last : List Line) → FinishesAt spot rows last → (more : List Line) × (last ≡ lines ++ more)
+  pub breaks : Breaks before after (texts lines)
+
+-- closes are shared by a method of this lot and this meaning
+module _ (lot : ℕ) (meaning : ℕ → List ℕ → List ℕ) where
+  -- a piece is played, with lines held back neither before nor after it
+  pub record Plays (s s' : Standing) (before after : Output) (piece : List ℕ) : Type 0 where
+    pub lines : List Line
+    pub types : All OfTypes lines
+    pub went : Went lot meaning s piece lines s'
+    pub sends : Sends before after [] [] (texts lines)
+
+  -- or not to its end
+  pub record Stops (s s' : Standing) (before after : Output) (piece : List ℕ) : Type 0 where
+    pub bytes : List ℕ
+    pub rest : List ℕ
+    pub split : piece ≡ bytes ++ rest
+    pub lines : List Line
+    pub went : Went lot meaning s bytes lines s'
+    pub breaks : Breaks before after (texts lines)
+
+  -- a whole file was played
+  pub record Played (before after : Lent) : Type 0 where
+    -- these bytes were read
+    pub bytes : List ℕ
+    pub read : Consumes before.input.bytes after.input.bytes bytes
+    -- what is not read makes no line due: theirs are the lines of the file that the input brings
+    pub whole : IfSome before.input.bytes (λ file. lines_of_file lot meaning (places_of before.lists) file ≡ lines_of_file lot meaning (places_of before.lists) bytes)
+    -- their tape was written, and nothing else
+    pub wrote : Appends before.output.bytes after.output.bytes (tape_of lot meaning (places_of before.lists) bytes)
+    -- lists and work lists hold what their messages leave
+    pub left : after.lists ≡ lists_at (stage_after_file meaning (opening before.lists) bytes)
+    -- the numbers of their lines are of their types
+    pub types : All OfTypes (lines_of_file lot meaning (places_of before.lists) bytes)
+    -- so the bytes of the tape determine the lines
+    pub readable : (others : List Line) → All OfTypes others → texts others ≡ tape_of lot meaning (places_of before.lists) bytes → others ≡ lines_of_file lot meaning (places_of before.lists) bytes
+
+  -- what failed: a read, where one may; or a write or a flush, where the output had no room for sure for the tape of the file
+  abbrev pub Failed : Trouble → Lent → List ℕ → Type 0
+  Failed (trouble.Input error) before file = before.input.may_fail ≡ true
+  Failed (trouble.Output error) before file = HasRoom before.output (length (tape_of lot meaning (places_of before.lists) file)) → ⊥
+
+  -- a file was not played to its end
+  pub record Stuck (trouble : Trouble) (before after : Lent) : Type 0 where
+    -- these bytes were read and taken, these were read and not taken, and these were not read
+    pub taken : List ℕ
+    pub untaken : List ℕ
+    pub unread : List ℕ
+    pub read : Consumes before.input.bytes after.input.bytes (taken ++ untaken)
+    -- together they are the file that the input brings
+    pub whole : IfSome before.input.bytes (λ file. file ≡ taken ++ (untaken ++ unread))
+    -- a beginning of its tape was written, and nothing else
+    pub written : List ℕ
+    pub unwritten : List ℕ
+    pub begins : tape_of lot meaning (places_of before.lists) (taken ++ (untaken ++ unread)) ≡ written ++ unwritten
+    pub wrote : Appends before.output.bytes after.output.bytes written
+    -- lists and work lists hold what the messages leave that were taken
+    pub left : after.lists ≡ lists_at (stage_after_file meaning (opening before.lists) taken)
+    -- the trouble says what failed
+    pub why : Failed trouble before (taken ++ (untaken ++ unread))
+
+  -- the answer of a call that plays a file: it was played to its end, or not, and then the trouble says why
+  abbrev pub PlaysFile : Result (Unit {0}) Trouble → Lent → Lent → Type 0
+  PlaysFile result before after = MatchResult result (λ _. Played before after) (λ trouble. Stuck trouble before after)
+
+  -- the output has room for the tape of what the input brings; where that is not known, for any number of bytes
+  abbrev pub HasRoomForTape : Places → Option (List ℕ) → Output → Type 0
+  HasRoomForTape places None output = (count : ℕ) → HasRoom output count
+  HasRoomForTape places (Some file) output = HasRoom output (length (tape_of lot meaning places file))
+
+  -- nothing can fail, where the session is lent so many places: no read may, and the output has room
+  pub record NothingFails (places : Places) (input : Input) (output : Output) : Type 0 where
+    pub reads : input.may_fail ≡ false
+    pub writes : HasRoomForTape places input.bytes output
