@@ -1,6 +1,6 @@
 -- Lists that hold the same elements in as many places are alike: what calls answer and leave is. Assumes nothing.
 use Rattle.std.proofs.Common.{◌≡◌, ℕ, suc, ◌+◌, ◌-◌, ◌≤◌, Bool, true, false, List, [], ◌∷◌, ◌++◌, length, take, drop, set, min, Some, None, Option, Ok, Err, inl, inr, refl, ap, sym, ◌∙◌, subst, arith}
-use Rattle.std.specs.Prelude.{Result, if◌then◌else◌, is_ok, nat_le, replicate, not, ◌&&◌}
+use Rattle.std.specs.Prelude.{Result, if◌then◌else◌, is_ok, nat_le, not, ◌&&◌}
 use Rattle.std.specs.List.{remove}
 use Rattle.std.specs.Option.{option_map_or}
 use Rattle.std.proofs.lemmas.Bool.{cases_lt}

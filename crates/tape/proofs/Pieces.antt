@@ -12,7 +12,7 @@ use Rattle.line.specs.declared.Line.TheVariants.{Refusal}
 use Rattle.message.specs.declared.fault.FileFault.TheVariants.{NoMessage}
 use Rattle.tape.specs.Files.{is_whole, gathered}
 use Rattle.tape.specs.Messages.{FileReply, of_message, reply_to, stage_left, rows_at, fill_line, lines_of, lines_at}
-use Rattle.tape.specs.Places.{Lists, Places, opening, places_of}
+use Rattle.tape.specs.Places.{Places}
 use Rattle.tape.specs.Tapes.{message_lines, lines_from_opening, lines_of_file}
 use Rattle.tape.specs.Upheld.{handled}
 use Rattle.tape.specs.declared.header.Awaited.{Awaited}
@@ -52,6 +52,10 @@ past_place (y ∷ ys) (suc k) none = past_place ys k none
 
 take_next : (k b : ℕ) (xs : List ℕ) → take (1 + k) (b ∷ xs) ≡ b ∷ take k xs
 take_next k b xs = let e : 1 + k ≡ suc k = omega arith in rw e refl
+
+pub one_at_most : (line : Option Line) → length (answered line) ≤ 1
+one_at_most None = omega arith
+one_at_most (Some line) = omega arith
 
 cases_Option : {T : Type 0} (o : Option T) → (o ≡ None) ⊎ ((x : T) × (o ≡ Some x))
 cases_Option None = inl refl
@@ -218,6 +222,32 @@ module _ (lot : ℕ) (meaning : ℕ → List ℕ → List ℕ) where
       by_fills (Some k) = elim (cases_Option (slice_get (rows_at s.stage) k)) [
         | inl none ↦ rw (none, past_place (rows_at s.stage) k none) (taken_ahead s.spot.place s.stage piece more)
         | inr (row, is) ↦ rw (is, from_place (rows_at s.stage) k row is, add-one) refl
+      ]
+
+  -- a call that answers no line leaves no F line due
+  quiet_taken : (place : Place) (st : Stage) (xs : List ℕ) → let a = taken_from lot meaning (at place None st) xs in is_some a.answer.line ≡ false → a.standing.spot.fills ≡ None
+  quiet_taken place st [] = λ none. refl
+  quiet_taken place st (b ∷ xs) =
+      let t = byte_at lot meaning (at place None st) place b in
+      by_line t.line t.standing (quiet_byte st place b) (λ next stage. quiet_taken next stage xs)
+    where
+      by_line : (line : Option Line) (s : Standing) → (is_some line ≡ false → s.spot.fills ≡ None)
+          → ((next : Place) (stage : Stage) → let a = taken_from lot meaning (at next None stage) xs in is_some a.answer.line ≡ false → a.standing.spot.fills ≡ None)
+          → let a : Advanced = (if is_some line then advanced_by 1 (turn line s) else further 1 (taken_from lot meaning s xs)) in is_some a.answer.line ≡ false → a.standing.spot.fills ≡ None
+      by_line (Some line) s quiet rest = λ none. absurd cc
+      by_line None s quiet rest =
+          let still : s ≡ at s.spot.place None s.stage = ap (λ (f : Option ℕ). at s.spot.place f s.stage) (quiet refl) in
+          let Goal : Standing → Type 0 = λ s'. let a = taken_from lot meaning s' xs in is_some a.answer.line ≡ false → a.standing.spot.fills ≡ None in
+          subst Goal (sym still) (rest s.spot.place s.stage)
+
+  pub quiet_advanced : (s : Standing) (piece : List ℕ) → let a = advanced lot meaning s piece in is_some a.answer.line ≡ false → a.standing.spot.fills ≡ None
+  quiet_advanced s piece = by_fills s.spot.fills
+    where
+      by_fills : (fills : Option ℕ) → let a = advanced lot meaning (at s.spot.place fills s.stage) piece in is_some a.answer.line ≡ false → a.standing.spot.fills ≡ None
+      by_fills None = quiet_taken s.spot.place s.stage piece
+      by_fills (Some k) = elim (cases_Option (slice_get (rows_at s.stage) k)) [
+        | inl none ↦ rw none (quiet_taken s.spot.place s.stage piece)
+        | inr (row, is) ↦ rw is (λ none. absurd cc)
       ]
 
   -- what the messages leave at a place, where these bytes come and then the file ends
@@ -398,6 +428,11 @@ module _ (lot : ℕ) (meaning : ℕ → List ℕ → List ℕ) where
       by_fills : (fills : Option ℕ) → Finishes (at s.spot.place fills s.stage) (ahead (at s.spot.place fills s.stage) [])
       by_fills None = rw (at_end s.stage s.spot.place sound) (finishes_last (last_line s.spot.place) (at s.spot.place None s.stage) refl refl)
       by_fills (Some k) = rw (at_end s.stage s.spot.place sound) (finishes_fills s.spot.place s.stage (drop k (rows_at s.stage)) k refl)
+
+  -- where no F line is due, the end makes one line due at the most
+  pub finishes_quiet : (s : Standing) → s.spot.fills ≡ None → Finishes s (answered (last_line s.spot.place))
+  finishes_quiet s none =
+      subst (λ (f : Option ℕ). Finishes (at s.spot.place f s.stage) (answered (last_line s.spot.place))) (sym none) (finishes_last (last_line s.spot.place) (at s.spot.place None s.stage) refl refl)
 
   -- there is one way to finish
   finishes_once : (s : Standing) (xs ys : List Line) → Finishes s xs → Finishes s ys → xs ≡ ys

@@ -1,6 +1,6 @@
 -- Pieces and the end of a file are played. Assumes nothing.
 use Rattle.std.proofs.Common.{◌≡◌, ℕ, ◌-◌, ◌<◌, List, [], ◌∷◌, ◌++◌, length, take, drop, Some, None, Option, Ok, Err, refl, sym, ap, ◌∙◌, subst, arith}
-use Rattle.std.specs.Prelude.{Result, MatchResult, All}
+use Rattle.std.specs.Prelude.{Result, MatchResult, All, is_some}
 use Rattle.std.proofs.lemmas.List.{append_assoc, append-nil, length-drop, take_all, take-append-drop}
 use Rattle.std.proofs.lemmas.List.Elements.{All-nil, All-cons, All-append}
 use Rattle.order.specs.declared.kind.Row.{Row}
@@ -14,7 +14,7 @@ use Rattle.tape.specs.Played.{Plays, Stops, Finished, Unfinished}
 use Rattle.tape.specs.Sending.{Sends, Breaks}
 use Rattle.tape.specs.Standing.{Spot, Standing, advanced, line_at_end, spot_at_end}
 use Rattle.tape.specs.Tapes.{texts}
-use Rattle.tape.proofs.Pieces.{ahead, advanced_ahead}
+use Rattle.tape.proofs.Pieces.{ahead, advanced_ahead, quiet_advanced}
 use Rattle.tape.proofs.Reading.{texts-append}
 use Rattle.tape.proofs.Sendings.{sends_more, sends_breaks}
 
@@ -136,6 +136,7 @@ module _ {lot : ℕ} {meaning : ℕ → List ℕ → List ℕ} {s s1 s2 : Standi
             types = so_far.types;
             went = went_all;
             sends = subst (λ (l : List ℕ). Sends o o2 [] l (texts so_far.lines)) sent.1 (subst (Sends o o2 [] unsent') (append-nil (texts so_far.lines)) (sends_more so_far.sends sent.0));
+            quiet = rw s2_is (quiet_advanced lot meaning s1 rest (ap is_some (sym (ap (λ (x : Advance). x.line) a_is) ∙ none)));
           }
       by_result (Err e) breaks =
           record {

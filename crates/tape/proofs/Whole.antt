@@ -1,27 +1,26 @@
 -- A whole file is played. Assumes nothing.
-use Rattle.std.proofs.Common.{◌≡◌, ℕ, ◌+◌, ◌-◌, ◌<◌, ◌≤◌, ◌^◌, Bool, true, false, List, [], ◌++◌, length, take, Some, None, Option, Ok, Err, inl, inr, refl, sym, ap, ◌∙◌, subst, arith}
+use Rattle.std.proofs.Common.{◌≡◌, ℕ, ◌+◌, ◌-◌, ◌<◌, ◌≤◌, ◌^◌, true, false, List, [], ◌++◌, length, take, Some, None, Option, Ok, Err, inl, inr, refl, sym, ap, ◌∙◌, subst, arith}
 use Rattle.std.specs.Prelude.{Result, MatchResult, IfSome, OnOk, IsOk, All}
 use Rattle.std.specs.Io.KnownBytes.{Appends, Consumes, Keeps, IsAtEnd}
 use Rattle.std.proofs.KnownBytes.{Consumes-trans}
 use Rattle.std.proofs.lemmas.Bool.{cases_Bool, false≢true}
 use Rattle.std.proofs.lemmas.List.{append_assoc, append-nil, length-append}
 use Rattle.std.proofs.lemmas.List.Elements.{All-nil, All-append}
-use Rattle.order.specs.declared.kind.Row.{Row}
 use Rattle.line.specs.declared.Line.{Line}
 use Rattle.line.specs.Reading.{OfTypes}
 use Rattle.tape.specs.declared.trouble.Trouble.{Trouble}
 use Rattle.tape.specs.declared.trouble.Trouble.TheVariants as trouble
 use Rattle.tape.specs.Ends.{Input, Output, HasRoom}
 use Rattle.tape.specs.Messages.{rows_at}
-use Rattle.tape.specs.Pieces.{Went, AnswersFile, stage_after_file}
-use Rattle.tape.specs.Places.{Places, opening, lists_at, places_of}
-use Rattle.tape.specs.Played.{Lent, lent, Plays, Stops, Finished, Unfinished, Played, Failed, Stuck, PlaysFile, as_trouble, NothingFails, HasRoomForTape}
+use Rattle.tape.specs.Pieces.{Went, AnswersFile, answered}
+use Rattle.tape.specs.Places.{opening, lists_at, places_of}
+use Rattle.tape.specs.Played.{Lent, lent, Plays, Stops, Finished, Unfinished, Played, Failed, IfInput, AllDue, Stuck, PlaysFile, as_trouble, NothingFails, HasRoomForTape}
 use Rattle.tape.specs.Runs.{opened_at}
 use Rattle.tape.specs.Sending.{Sends, Breaks}
-use Rattle.tape.specs.Standing.{Spot, Standing, is_over}
+use Rattle.tape.specs.Standing.{Standing, is_over, last_line}
 use Rattle.tape.specs.Tapes.{texts, lines_from_opening, lines_of_file, tape_of}
 use Rattle.tape.proofs.Alike.{places_decide}
-use Rattle.tape.proofs.Pieces.{answers_each_file, nothing_more, few_bytes}
+use Rattle.tape.proofs.Pieces.{answers_each_file, nothing_more, few_bytes, finishes_quiet, one_at_most}
 use Rattle.tape.proofs.Playing.{went_more, went_none}
 use Rattle.tape.proofs.Reading.{texts-append, read_back}
 use Rattle.tape.proofs.Sendings.{room_as, room_less, sends_none, sends_more, sends_breaks}
@@ -89,6 +88,8 @@ pub record Far (lot : ℕ) (meaning : ℕ → List ℕ → List ℕ) (before : L
   pub stays : input.may_fail ≡ true → before.input.may_fail ≡ true
   -- where no read may fail, each turn read a byte or more
   pub turns : before.input.may_fail ≡ false → turn ≤ length bytes
+  -- no F line is due
+  pub quiet : s.spot.fills ≡ None
 
 module _ {lot : ℕ} {meaning : ℕ → List ℕ → List ℕ} {before : Lent} where
   pub far_begun : {s : Standing} {unsent : List ℕ} → s ≡ opened_at (opening before.lists) → unsent ≡ [] → Far lot meaning before before.input before.output s unsent 0
@@ -103,6 +104,7 @@ module _ {lot : ℕ} {meaning : ℕ → List ℕ → List ℕ} {before : Lent} w
         empty = empty;
         stays = λ fails. fails;
         turns = λ safe. omega arith;
+        quiet = rw opened refl;
       }
 
   module _ {input input2 : Input} {output : Output} {s : Standing} {unsent : List ℕ} {turn : ℕ} (far : Far lot meaning before input output s unsent turn) (stays : input2.may_fail ≡ true → input.may_fail ≡ true) where
@@ -120,6 +122,7 @@ module _ {lot : ℕ} {meaning : ℕ → List ℕ → List ℕ} {before : Lent} w
           empty = empty;
           stays = λ fails. far.stays (stays fails);
           turns = λ safe. omega (arith, far.turns safe, some, length-append far.bytes piece);
+          quiet = plays.quiet;
         }
 
     -- a read was interrupted
@@ -135,6 +138,7 @@ module _ {lot : ℕ} {meaning : ℕ → List ℕ → List ℕ} {before : Lent} w
           empty = far.empty;
           stays = λ fails. far.stays (stays fails);
           turns = λ safe. absurd (false≢true (sym safe ∙ far.stays fails));
+          quiet = far.quiet;
         }
 
 module _ (lot : ℕ) (meaning : ℕ → List ℕ → List ℕ) (before : Lent) (paired : (amount : ℕ) (claims : List ℕ) → length (meaning amount claims) ≡ length claims) where
@@ -164,8 +168,8 @@ module _ (lot : ℕ) (meaning : ℕ → List ℕ → List ℕ) (before : Lent) (
       (went : Went lot meaning (opened_at (opening before.lists)) taken lines s) (read : Consumes before.input.bytes input.bytes (taken ++ untaken)) where
     -- trouble leaves a file unfinished
     stuck : (t : Trouble) (written unwritten : List ℕ) → tape_on (file_of taken untaken input) ≡ written ++ unwritten → Appends before.output.bytes output.bytes written → Failed lot meaning t before (file_of taken untaken input)
-        → Stuck lot meaning t before (lent input output (lists_at s.stage))
-    stuck t written unwritten begins wrote why =
+        → IfInput t (AllDue lot meaning (places_of before.lists) taken untaken written) → Stuck lot meaning t before (lent input output (lists_at s.stage))
+    stuck t written unwritten begins wrote why due =
         record {
           taken = taken;
           untaken = untaken;
@@ -176,6 +180,7 @@ module _ (lot : ℕ) (meaning : ℕ → List ℕ → List ℕ) (before : Lent) (
           unwritten = unwritten;
           begins = begins;
           wrote = wrote;
+          due = due;
           left = ap lists_at (law went).stage;
           why = why;
         }
@@ -185,14 +190,22 @@ module _ (lot : ℕ) (meaning : ℕ → List ℕ → List ℕ) (before : Lent) (
     stuck_output xs tail breaks is = λ error.
         stuck (trouble.Output error) breaks.sent (breaks.unsent ++ tail) (is ∙ ap (λ (l : List ℕ). l ++ tail) breaks.split ∙ append_assoc breaks.sent breaks.unsent tail) breaks.wrote
         (λ room. breaks.short (room_less before.output (length xs) (length tail) (room_as before.output (length (tape_on (file_of taken untaken input))) (length xs + length tail) (ap length is ∙ length-append xs tail) room)))
+        tt
 
   module _ {input : Input} {output : Output} {s : Standing} {unsent : List ℕ} {turn : ℕ} (far : Far lot meaning before input output s unsent turn) (input2 : Input) where
     -- a read failed
     stuck_input : Consumes before.input.bytes input2.bytes far.bytes → before.input.may_fail ≡ true → (error : _) → Stuck lot meaning (trouble.Input error) before (lent input2 output (lists_at s.stage))
     stuck_input read fails = λ error.
         let f = (law far.went).first ([] ++ known_of input2.bytes) in
+        let last = answered (last_line s.spot.place) in
         stuck {input = input2} {output = output} [] far.went (subst (Consumes before.input.bytes input2.bytes) (sym (append-nil far.bytes)) read) (trouble.Input error) (texts far.lines) (texts f.0)
         (ap texts f.1 ∙ texts-append far.lines f.0) (sent-all far.sends) fails
+        (record {
+          all_taken = refl;
+          last = last;
+          few = one_at_most (last_line s.spot.place);
+          wrote = ap texts ((law far.went).all last (finishes_quiet lot meaning s far.quiet)) ∙ texts-append far.lines last;
+        })
 
     pub far_input : Keeps input.bytes input2.bytes → input.may_fail ≡ true → (error : _) → Stuck lot meaning (trouble.Input error) before (lent input2 output (lists_at s.stage))
     far_input kept fails = stuck_input (keeps-consumes before.input.bytes input.bytes input2.bytes far.bytes far.read kept) (far.stays fails)

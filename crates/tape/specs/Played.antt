@@ -1,5 +1,5 @@
 -- What a call that plays a file has read, written and left. Assumes nothing.
-use Rattle.std.specs.Prelude.{◌≡◌, ℕ, Bool, true, false, List, [], ◌++◌, length, All, None, Some, Option, Ok, Err, IfSome, Result, MatchResult}
+use Rattle.std.specs.Prelude.{◌≡◌, ◌≤◌, ⊤, ℕ, true, false, List, [], ◌++◌, length, All, None, Some, Option, Ok, Err, IfSome, Result, MatchResult}
 use Rattle.std.specs.Io.KnownBytes.{Appends, Consumes}
 use Rattle.order.specs.declared.kind.Row.{Row}
 use Rattle.line.specs.declared.Line.{Line}
@@ -21,6 +21,11 @@ pub record Lent : Type 0 where
 
 abbrev pub lent : Input → Output → Lists → Lent
 lent input output lists = record { input = input; output = output; lists = lists }
+
+-- this holds, where the trouble is that a read failed
+abbrev pub IfInput : Trouble → Type 0 → Type 0
+IfInput (trouble.Input error) P = P
+IfInput (trouble.Output error) P = ⊤
 
 -- an error is trouble of this sort
 abbrev pub as_trouble : {E : Type 0} → (E → Trouble) → Result (Unit {0}) E → Result (Unit {0}) Trouble
@@ -48,6 +53,8 @@ module _ (lot : ℕ) (meaning : ℕ → List ℕ → List ℕ) where
     pub types : All OfTypes lines
     pub went : Went lot meaning s piece lines s'
     pub sends : Sends before after [] [] (texts lines)
+    -- no F line is due any more
+    pub quiet : s'.spot.fills ≡ None
 
   -- or not to its end
   pub record Stops (s s' : Standing) (before after : Output) (piece : List ℕ) : Type 0 where
@@ -79,6 +86,13 @@ module _ (lot : ℕ) (meaning : ℕ → List ℕ → List ℕ) where
   Failed (trouble.Input error) before file = before.input.may_fail ≡ true
   Failed (trouble.Output error) before file = HasRoom before.output (length (tape_of lot meaning (places_of before.lists) file)) → ⊥
 
+  -- all bytes that were read were taken, and all lines are written that they make due: their end would make one more due at the most
+  pub record AllDue (places : Places) (taken untaken written : List ℕ) : Type 0 where
+    pub all_taken : untaken ≡ []
+    pub last : List Line
+    pub few : length last ≤ 1
+    pub wrote : tape_of lot meaning places taken ≡ written ++ texts last
+
   -- a file was not played to its end
   pub record Stuck (trouble : Trouble) (before after : Lent) : Type 0 where
     -- these bytes were read and taken, these were read and not taken, and these were not read
@@ -93,6 +107,8 @@ module _ (lot : ℕ) (meaning : ℕ → List ℕ → List ℕ) where
     pub unwritten : List ℕ
     pub begins : tape_of lot meaning (places_of before.lists) (taken ++ (untaken ++ unread)) ≡ written ++ unwritten
     pub wrote : Appends before.output.bytes after.output.bytes written
+    -- where a read failed, no line is wanting that was due before
+    pub due : IfInput trouble (AllDue (places_of before.lists) taken untaken written)
     -- lists and work lists hold what the messages leave that were taken
     pub left : after.lists ≡ lists_at (stage_after_file meaning (opening before.lists) taken)
     -- the trouble says what failed

@@ -1,4 +1,4 @@
-use Rattle.std.proofs.Common.{◌≡◌, ◌<◌, length, ap, rules, arith, Bor, List, ℕ}
+use Rattle.std.proofs.Common.{◌≡◌, ◌<◌, length, ap, rules, Bor, List, ℕ}
 use Rattle.tape.proofs.Sendings.{going_on, going_again, going_done, going_wrong, going_nowhere}
 use Rattle.tape.proofs.sending.send.Goals.{in-Ok, in-Err}
 use Rattle.tape.proofs.sending.send.Goals as goal
