@@ -24,12 +24,14 @@ lived_on life (call ∷ calls) (answer ∷ answers) = lived_on (later life call 
 abbrev pub first_of : ℕ → List Call → List Answer → Life
 first_of k calls answers = lived_on begun (take k calls) (take k answers)
 
--- what holds of a whole life: of each call and its answer, and of the session, its rows and its notices at each step and at the end; moments k is what stood after the first k calls
+-- what holds of a whole life: of each call and its answer, and of the session, its rows and its notices, at each step and at the end. Given are what
+-- stood after the first k calls, for each k, and what stands at the end
 pub record WholeLife (calls : List Call) (answers : List Answer) (moments : ℕ → Moment) (s : State) (rows : List Row) (notices : List Notice) : Type 0 where
   -- each call has one answer
   pub paired : length answers ≡ length calls
   -- each answer is upheld by the ledger of the calls before it and their answers
-  pub upheld : (k : ℕ) (call : Call) (answer : Answer) → slice_get calls k ≡ Some call → slice_get answers k ≡ Some answer → UpheldBy (ledger_of (first_of k calls answers)) call answer (filled_shares rows)
+  pub upheld : (k : ℕ) (call : Call) (answer : Answer) → slice_get calls k ≡ Some call → slice_get answers k ≡ Some answer
+      → UpheldBy (ledger_of (first_of k calls answers)) call answer (filled_shares rows)
   -- a call is refused as done (7) just where a close before it was completed
   pub ends : (k : ℕ) (answer : Answer) → slice_get answers k ≡ Some answer → refused_with 7 answer ≡ was_closed (first_of k calls answers)
   -- at most one call is answered with a print

@@ -18,30 +18,33 @@ at_err P (Err e) failed holds = holds
 module _ (lot : ℕ) (meaning : ℕ → List ℕ → List ℕ) where
   -- where nothing is written
   pub nothing_written : (input : Input) (o : Output) → WritesBeginning lot meaning input o o
-  nothing_written input o = record { written = []; begins = by_input input.bytes; wrote = Appends-nil o.bytes }
+  nothing_written input o = written_of (is_known input.bytes).0 (is_known input.bytes).1
     where
-      by_input : (i : Option (List ℕ)) → IfSome i (λ file. (rest : List ℕ) × (tape_of lot meaning program_places file ≡ [] ++ rest))
-      by_input None = tt
-      by_input (Some file) = (tape_of lot meaning program_places file, refl)
+      written_of : (file : List ℕ) → IfSome input.bytes (λ known. known ≡ file) → WritesBeginning lot meaning input o o
+      written_of file brings = record { file = file; brings = brings; written = []; rest = tape_of lot meaning program_places file; begins = refl; wrote = Appends-nil o.bytes }
+
+      is_known : (i : Option (List ℕ)) → (file : List ℕ) × IfSome i (λ known. known ≡ file)
+      is_known None = ([], tt)
+      is_known (Some file) = (file, refl)
 
   -- a call that plays a file was lent the places of a program
-  pub plays_tape : (r : Result (Unit {0}) Trouble) (before after : Lent) → places_of before.lists ≡ program_places → PlaysFile lot meaning r before after
-      → MatchResult r (λ _. WritesTape lot meaning before.input before.output after.output) (λ _. WritesBeginning lot meaning before.input before.output after.output)
-  plays_tape (Ok x) before after as_many played = by_input before.input.bytes played.whole
-    where
-      by_input : (i : Option (List ℕ)) → IfSome i (λ file. lines_of_file lot meaning (places_of before.lists) file ≡ lines_of_file lot meaning (places_of before.lists) played.bytes)
-          → IfSome i (λ file. Appends before.output.bytes after.output.bytes (tape_of lot meaning program_places file))
-      by_input None whole = tt
-      by_input (Some file) whole =
-          let same : tape_of lot meaning (places_of before.lists) played.bytes ≡ tape_of lot meaning program_places file =
-          sym (ap texts whole) ∙ ap (λ (p : Places). tape_of lot meaning p file) as_many in
-          subst (Appends before.output.bytes after.output.bytes) same played.wrote
-  plays_tape (Err t) before after as_many stuck = record { written = stuck.written; begins = by_input before.input.bytes stuck.whole; wrote = stuck.wrote }
-    where
-      by_input : (i : Option (List ℕ)) → IfSome i (λ file. file ≡ stuck.taken ++ (stuck.untaken ++ stuck.unread))
-          → IfSome i (λ file. (rest : List ℕ) × (tape_of lot meaning program_places file ≡ stuck.written ++ rest))
-      by_input None whole = tt
-      by_input (Some file) whole = (
-        stuck.unwritten,
-        ap (tape_of lot meaning program_places) whole ∙ ap (λ (p : Places). tape_of lot meaning p (stuck.taken ++ (stuck.untaken ++ stuck.unread))) (sym as_many) ∙ stuck.begins,
-      )
+  module _ (before after : Lent) (as_many : places_of before.lists ≡ program_places) where
+    same_tape : (file : List ℕ) → tape_of lot meaning (places_of before.lists) file ≡ tape_of lot meaning program_places file
+    same_tape file = ap (λ (p : Places). tape_of lot meaning p file) as_many
+
+    pub plays_tape : (r : Result (Unit {0}) Trouble) → PlaysFile lot meaning r before after
+        → MatchResult r (λ _. WritesTape lot meaning before.input before.output after.output) (λ _. WritesBeginning lot meaning before.input before.output after.output)
+    plays_tape (Ok x) played =
+        record {
+          file = played.bytes;
+          brings = by_input before.input.bytes played.whole;
+          wrote = subst (Appends before.output.bytes after.output.bytes) (same_tape played.bytes) played.wrote;
+        }
+      where
+        by_input : (i : Option (List ℕ)) → IfSome i (λ file. lines_of_file lot meaning (places_of before.lists) file ≡ lines_of_file lot meaning (places_of before.lists) played.bytes)
+            → IfSome i (λ known. tape_of lot meaning program_places known ≡ tape_of lot meaning program_places played.bytes)
+        by_input None whole = tt
+        by_input (Some file) whole = sym (same_tape file) ∙ ap texts whole ∙ same_tape played.bytes
+    plays_tape (Err t) stuck =
+        let file = stuck.taken ++ (stuck.untaken ++ stuck.unread) in
+        record { file = file; brings = stuck.whole; written = stuck.written; rest = stuck.unwritten; begins = sym (same_tape file) ∙ stuck.begins; wrote = stuck.wrote }

@@ -12,13 +12,18 @@ program_places = record { orders = 1024; notices = 64; claims = 1024; gifts = 10
 -- closes are shared by a method of this lot and this meaning
 module _ (lot : ℕ) (meaning : ℕ → List ℕ → List ℕ) where
   -- the tape of the file that the input brings was written
-  abbrev pub WritesTape : Input → Output → Output → Type 0
-  WritesTape input before after = IfSome input.bytes (λ file. Appends before.bytes after.bytes (tape_of lot meaning program_places file))
+  pub record WritesTape (input : Input) (before after : Output) : Type 0 where
+    pub file : List ℕ
+    pub brings : IfSome input.bytes (λ known. tape_of lot meaning program_places known ≡ tape_of lot meaning program_places file)
+    pub wrote : Appends before.bytes after.bytes (tape_of lot meaning program_places file)
 
   -- a beginning of it was written, some bytes or none or all
   pub record WritesBeginning (input : Input) (before after : Output) : Type 0 where
+    pub file : List ℕ
+    pub brings : IfSome input.bytes (λ known. known ≡ file)
     pub written : List ℕ
-    pub begins : IfSome input.bytes (λ file. (rest : List ℕ) × (tape_of lot meaning program_places file ≡ written ++ rest))
+    pub rest : List ℕ
+    pub begins : tape_of lot meaning program_places file ≡ written ++ rest
     pub wrote : Appends before.bytes after.bytes written
 
   -- a program that ends with status 0 has written the tape; else it ends with status 1, and a beginning of the tape is written

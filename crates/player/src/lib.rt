@@ -24,9 +24,10 @@ const ORDERS: usize = 1024;
 /// How many notices a session has places for.
 const NOTICES: usize = 64;
 
-/// Plays the file that `input` brings, for the program of this name: its tape goes to `output`, and `method` shares out its close. Lines are written
-/// as soon as they are due. The status is 0 where the whole tape is written; else it is 1, the trouble is told on standard error, and a beginning of
-/// the tape is written, nothing where the program was given an argument.
+/// Plays the file that `input` brings, for the program of this name: its tape goes to `output`, and `method` shares out its close. The status is 0
+/// only where the tape is written; else it is 1, and a beginning of the tape is written, some bytes or none or all.
+// It is 1 where the program was given an argument, and where a read, a write or a flush failed, which standard error tells: of arguments and of what
+// is printed no clause can speak.
 pub fn play<R: Env + Alloc + Eprint, I: Source, O: Sink, S: Sharing>(
     rt: &R,
     name: &'static str,
@@ -45,8 +46,8 @@ pub fn play<R: Env + Alloc + Eprint, I: Source, O: Sink, S: Sharing>(
     }
 }
 
-/// Plays a file on the places of a program: 1,024 for orders, 64 for notices, and 1,024 in each work list. It ends in trouble only where a read, a
-/// write or a flush fails; a beginning of the tape is written then.
+/// Plays a file on the places of a program: 1,024 for orders, 64 for notices, and 1,024 in each work list. Where no read may fail, and the output has
+/// room for the tape, it succeeds; where it ends in trouble, a beginning of the tape is written.
 pub fn play_between<I: Source, O: Sink, S: Sharing>(
     input: &mut I,
     output: &mut O,

@@ -17,7 +17,7 @@ use Rattle.tape.specs.Tapes.{message_lines, lines_from_opening, lines_of_file}
 use Rattle.tape.specs.Upheld.{handled}
 use Rattle.tape.specs.declared.header.Awaited.{Awaited}
 use Rattle.tape.specs.declared.header.Awaited.TheVariants.{C, L, O, High, Low}
-use Rattle.tape.specs.Standing.{Place, in_header, in_message, over, Standing, Turn, Advanced, at, turn, advanced_by, further, header_byte, header_fault, awaited_next, after_header_byte, in_header_byte, in_message_byte, after_message, byte_at, taken_from, advanced, filled, first_line, fills_after, last_line, finished, is_over}
+use Rattle.tape.specs.Standing.{Place, in_header, in_message, over, Standing, Turn, Advanced, at, turn, advanced_by, further, header_byte, header_fault, awaited_next, after_header_byte, in_header_byte, in_message_byte, after_message, byte_at, taken_from, advanced, fill_turn, first_line, fills_after, last_line, finished, is_over}
 use Rattle.tape.specs.Runs.{opened_at}
 use Rattle.tape.specs.Pieces.{answered, Finishes, Calls, Went, offered, AnswersEachFile, stage_after_messages, stage_after_file}
 
@@ -52,10 +52,6 @@ past_place (y ∷ ys) (suc k) none = past_place ys k none
 
 take_next : (k b : ℕ) (xs : List ℕ) → take (1 + k) (b ∷ xs) ≡ b ∷ take k xs
 take_next k b xs = let e : 1 + k ≡ suc k = omega arith in rw e refl
-
-pub one_at_most : (line : Option Line) → length (answered line) ≤ 1
-one_at_most None = omega arith
-one_at_most (Some line) = omega arith
 
 cases_Option : {T : Type 0} (o : Option T) → (o ≡ None) ⊎ ((x : T) × (o ≡ Some x))
 cases_Option None = inl refl
@@ -318,7 +314,7 @@ module _ (lot : ℕ) (meaning : ℕ → List ℕ → List ℕ) where
 
   advanced_left : (s : Standing) (piece more : List ℕ) → let a = advanced lot meaning s piece in left s (take a.answer.taken piece ++ more) ≡ left a.standing more
   advanced_left s piece more =
-      let t = filled s in
+      let t = fill_turn s in
       elim (cases_Bool (is_some t.line)) [ inl some ↦ rw some refl | inr none ↦ rw none (taken_left t.standing piece more) ]
 
   left_at_end : (st : Stage) (place : Place) → Sound place → left_from place st [] ≡ st
@@ -384,7 +380,7 @@ module _ (lot : ℕ) (meaning : ℕ → List ℕ → List ℕ) where
 
   counted_advanced : (s : Standing) (piece : List ℕ) (j k : ℕ) → Counted k s.spot.place → let a = advanced lot meaning s piece in j ≡ k + length (take a.answer.taken piece) → Counted j a.standing.spot.place
   counted_advanced s piece j k c =
-      let t = filled s in
+      let t = fill_turn s in
       elim (cases_Bool (is_some t.line)) [
         | inl some ↦ rw some (λ is. subst (λ (n : ℕ). Counted n s.spot.place) (omega (arith, is)) c)
         | inr none ↦ rw none (counted_taken t.standing piece j k c)
@@ -428,11 +424,6 @@ module _ (lot : ℕ) (meaning : ℕ → List ℕ → List ℕ) where
       by_fills : (fills : Option ℕ) → Finishes (at s.spot.place fills s.stage) (ahead (at s.spot.place fills s.stage) [])
       by_fills None = rw (at_end s.stage s.spot.place sound) (finishes_last (last_line s.spot.place) (at s.spot.place None s.stage) refl refl)
       by_fills (Some k) = rw (at_end s.stage s.spot.place sound) (finishes_fills s.spot.place s.stage (drop k (rows_at s.stage)) k refl)
-
-  -- where no F line is due, the end makes one line due at the most
-  pub finishes_quiet : (s : Standing) → s.spot.fills ≡ None → Finishes s (answered (last_line s.spot.place))
-  finishes_quiet s none =
-      subst (λ (f : Option ℕ). Finishes (at s.spot.place f s.stage) (answered (last_line s.spot.place))) (sym none) (finishes_last (last_line s.spot.place) (at s.spot.place None s.stage) refl refl)
 
   -- there is one way to finish
   finishes_once : (s : Standing) (xs ys : List Line) → Finishes s xs → Finishes s ys → xs ≡ ys

@@ -7,7 +7,7 @@ use Rattle.std.proofs.Math.Seq.{drop-drop}
 use Rattle.life.specs.Stages.{Stage}
 use Rattle.line.specs.declared.Line.{Line}
 use Rattle.tape.specs.Files.{is_whole}
-use Rattle.tape.specs.Standing.{Place, in_message, Standing, Turn, Advanced, at, turn, advanced_by, further, filled, byte_at, after_message, taken_from, advanced}
+use Rattle.tape.specs.Standing.{Place, in_message, Standing, Turn, Advanced, at, turn, advanced_by, further, fill_turn, byte_at, after_message, taken_from, advanced}
 
 module _ (lot : ℕ) (meaning : ℕ → List ℕ → List ℕ) where
   -- a line is due, or more bytes are taken
@@ -95,5 +95,5 @@ module _ (lot : ℕ) (meaning : ℕ → List ℕ → List ℕ) where
     goes_on none = leads ∙ ap (further taken) split ∙ rw none (further-further taken n (taken_from lot meaning s'' (drop (taken + n) piece)))
 
   -- no F line is due: bytes are taken
-  pub takes : (s : Standing) (piece : List ℕ) (a : Advanced) → is_some (filled s).line ≡ false → taken_from lot meaning (filled s).standing piece ≡ a → advanced lot meaning s piece ≡ a
+  pub takes : (s : Standing) (piece : List ℕ) (a : Advanced) → is_some (fill_turn s).line ≡ false → taken_from lot meaning (fill_turn s).standing piece ≡ a → advanced lot meaning s piece ≡ a
   takes s piece a none is = rw none is

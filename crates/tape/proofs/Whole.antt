@@ -14,13 +14,13 @@ use Rattle.tape.specs.Ends.{Input, Output, HasRoom}
 use Rattle.tape.specs.Messages.{rows_at}
 use Rattle.tape.specs.Pieces.{Went, AnswersFile, answered}
 use Rattle.tape.specs.Places.{opening, lists_at, places_of}
-use Rattle.tape.specs.Played.{Lent, lent, Plays, Stops, Finished, Unfinished, Played, Failed, IfInput, AllDue, Stuck, PlaysFile, as_trouble, NothingFails, HasRoomForTape}
+use Rattle.tape.specs.Played.{Lent, lent, Plays, Stops, Finished, Unfinished, Played, MayHaveFailed, IfInput, AllDue, Stuck, PlaysFile, as_trouble, NothingFails, HasRoomForTape}
 use Rattle.tape.specs.Runs.{opened_at}
 use Rattle.tape.specs.Sending.{Sends, Breaks}
-use Rattle.tape.specs.Standing.{Standing, is_over, last_line}
+use Rattle.tape.specs.Standing.{Standing, is_over}
 use Rattle.tape.specs.Tapes.{texts, lines_from_opening, lines_of_file, tape_of}
 use Rattle.tape.proofs.Alike.{places_decide}
-use Rattle.tape.proofs.Pieces.{answers_each_file, nothing_more, few_bytes, finishes_quiet, one_at_most}
+use Rattle.tape.proofs.Pieces.{answers_each_file, nothing_more, few_bytes}
 use Rattle.tape.proofs.Playing.{went_more, went_none}
 use Rattle.tape.proofs.Reading.{texts-append, read_back}
 use Rattle.tape.proofs.Sendings.{room_as, room_less, sends_none, sends_more, sends_breaks}
@@ -64,7 +64,7 @@ module _ (lot : ℕ) (meaning : ℕ → List ℕ → List ℕ) where
       file = stuck.taken ++ (stuck.untaken ++ stuck.unread)
 
       by_input : (input : Option (List ℕ)) → HasRoomForTape lot meaning (places_of before.lists) input before.output → IfSome input (λ whole. whole ≡ stuck.taken ++ (stuck.untaken ++ stuck.unread)) → ⊥
-      by_input None room same = stuck.why (room (length (tape_of lot meaning (places_of before.lists) file)))
+      by_input None room same = stuck.why (room file)
       by_input (Some whole) room same = stuck.why (subst (λ (f : List ℕ). HasRoom before.output (length (tape_of lot meaning (places_of before.lists) f))) same room)
 
   pub plays_ok : (r : Result (Unit {0}) Trouble) (before after : Lent) → PlaysFile lot meaning r before after → NothingFails lot meaning (places_of before.lists) before.input before.output → IsOk r
@@ -167,8 +167,8 @@ module _ (lot : ℕ) (meaning : ℕ → List ℕ → List ℕ) (before : Lent) (
   module _ {input : Input} {output : Output} {s : Standing} {taken : List ℕ} {lines : List Line} (untaken : List ℕ)
       (went : Went lot meaning (opened_at (opening before.lists)) taken lines s) (read : Consumes before.input.bytes input.bytes (taken ++ untaken)) where
     -- trouble leaves a file unfinished
-    stuck : (t : Trouble) (written unwritten : List ℕ) → tape_on (file_of taken untaken input) ≡ written ++ unwritten → Appends before.output.bytes output.bytes written → Failed lot meaning t before (file_of taken untaken input)
-        → IfInput t (AllDue lot meaning (places_of before.lists) taken untaken written) → Stuck lot meaning t before (lent input output (lists_at s.stage))
+    stuck : (t : Trouble) (written unwritten : List ℕ) → tape_on (file_of taken untaken input) ≡ written ++ unwritten → Appends before.output.bytes output.bytes written → MayHaveFailed lot meaning t before (file_of taken untaken input)
+        → IfInput t (AllDue lot meaning (opening before.lists) taken untaken written) → Stuck lot meaning t before (lent input output (lists_at s.stage))
     stuck t written unwritten begins wrote why due =
         record {
           taken = taken;
@@ -197,15 +197,9 @@ module _ (lot : ℕ) (meaning : ℕ → List ℕ → List ℕ) (before : Lent) (
     stuck_input : Consumes before.input.bytes input2.bytes far.bytes → before.input.may_fail ≡ true → (error : _) → Stuck lot meaning (trouble.Input error) before (lent input2 output (lists_at s.stage))
     stuck_input read fails = λ error.
         let f = (law far.went).first ([] ++ known_of input2.bytes) in
-        let last = answered (last_line s.spot.place) in
         stuck {input = input2} {output = output} [] far.went (subst (Consumes before.input.bytes input2.bytes) (sym (append-nil far.bytes)) read) (trouble.Input error) (texts far.lines) (texts f.0)
         (ap texts f.1 ∙ texts-append far.lines f.0) (sent-all far.sends) fails
-        (record {
-          all_taken = refl;
-          last = last;
-          few = one_at_most (last_line s.spot.place);
-          wrote = ap texts ((law far.went).all last (finishes_quiet lot meaning s far.quiet)) ∙ texts-append far.lines last;
-        })
+        (record { all_taken = refl; lines = far.lines; standing = s; went = far.went; quiet = far.quiet; wrote = refl })
 
     pub far_input : Keeps input.bytes input2.bytes → input.may_fail ≡ true → (error : _) → Stuck lot meaning (trouble.Input error) before (lent input2 output (lists_at s.stage))
     far_input kept fails = stuck_input (keeps-consumes before.input.bytes input.bytes input2.bytes far.bytes far.read kept) (far.stays fails)

@@ -1,5 +1,5 @@
 -- What a call that plays a file has read, written and left. Assumes nothing.
-use Rattle.std.specs.Prelude.{◌≡◌, ◌≤◌, ⊤, ℕ, true, false, List, [], ◌++◌, length, All, None, Some, Option, Ok, Err, IfSome, Result, MatchResult}
+use Rattle.std.specs.Prelude.{◌≡◌, ⊤, ℕ, true, false, List, [], ◌++◌, length, All, None, Some, Option, Ok, Err, IfSome, Result, MatchResult}
 use Rattle.std.specs.Io.KnownBytes.{Appends, Consumes}
 use Rattle.order.specs.declared.kind.Row.{Row}
 use Rattle.line.specs.declared.Line.{Line}
@@ -8,7 +8,9 @@ use Rattle.tape.specs.declared.trouble.Trouble.{Trouble}
 use Rattle.tape.specs.declared.trouble.Trouble.TheVariants as trouble
 use Rattle.tape.specs.Ends.{Input, Output, HasRoom}
 use Rattle.tape.specs.Pieces.{FinishesAt, Went, stage_after_file}
+use Rattle.life.specs.Stages.{Stage}
 use Rattle.tape.specs.Places.{Lists, Places, opening, lists_at, places_of}
+use Rattle.tape.specs.Runs.{opened_at}
 use Rattle.tape.specs.Sending.{Sends, Breaks}
 use Rattle.tape.specs.Standing.{Spot, Standing}
 use Rattle.tape.specs.Tapes.{texts, lines_of_file, tape_of}
@@ -79,19 +81,22 @@ module _ (lot : ℕ) (meaning : ℕ → List ℕ → List ℕ) where
     -- the numbers of their lines are of their types
     pub types : All OfTypes (lines_of_file lot meaning (places_of before.lists) bytes)
     -- so the bytes of the tape determine the lines
-    pub readable : (others : List Line) → All OfTypes others → texts others ≡ tape_of lot meaning (places_of before.lists) bytes → others ≡ lines_of_file lot meaning (places_of before.lists) bytes
+    pub readable : (others : List Line) → All OfTypes others → texts others ≡ tape_of lot meaning (places_of before.lists) bytes
+        → others ≡ lines_of_file lot meaning (places_of before.lists) bytes
 
-  -- what failed: a read, where one may; or a write or a flush, where the output had no room for sure for the tape of the file
-  abbrev pub Failed : Trouble → Lent → List ℕ → Type 0
-  Failed (trouble.Input error) before file = before.input.may_fail ≡ true
-  Failed (trouble.Output error) before file = HasRoom before.output (length (tape_of lot meaning (places_of before.lists) file)) → ⊥
+  -- what may have failed: a read, where one may; or a write or a flush, where the output had no room for sure for the tape of the file
+  abbrev pub MayHaveFailed : Trouble → Lent → List ℕ → Type 0
+  MayHaveFailed (trouble.Input error) before file = before.input.may_fail ≡ true
+  MayHaveFailed (trouble.Output error) before file = HasRoom before.output (length (tape_of lot meaning (places_of before.lists) file)) → ⊥
 
-  -- all bytes that were read were taken, and all lines are written that they make due: their end would make one more due at the most
-  pub record AllDue (places : Places) (taken untaken written : List ℕ) : Type 0 where
+  -- all bytes that were read were taken, and what is written are the lines that a run answers on them, to the last that is due
+  pub record AllDue (start : Stage) (taken untaken written : List ℕ) : Type 0 where
     pub all_taken : untaken ≡ []
-    pub last : List Line
-    pub few : length last ≤ 1
-    pub wrote : tape_of lot meaning places taken ≡ written ++ texts last
+    pub lines : List Line
+    pub standing : Standing
+    pub went : Went lot meaning (opened_at start) taken lines standing
+    pub quiet : standing.spot.fills ≡ None
+    pub wrote : written ≡ texts lines
 
   -- a file was not played to its end
   pub record Stuck (trouble : Trouble) (before after : Lent) : Type 0 where
@@ -108,19 +113,19 @@ module _ (lot : ℕ) (meaning : ℕ → List ℕ → List ℕ) where
     pub begins : tape_of lot meaning (places_of before.lists) (taken ++ (untaken ++ unread)) ≡ written ++ unwritten
     pub wrote : Appends before.output.bytes after.output.bytes written
     -- where a read failed, no line is wanting that was due before
-    pub due : IfInput trouble (AllDue (places_of before.lists) taken untaken written)
+    pub due : IfInput trouble (AllDue (opening before.lists) taken untaken written)
     -- lists and work lists hold what the messages leave that were taken
     pub left : after.lists ≡ lists_at (stage_after_file meaning (opening before.lists) taken)
-    -- the trouble says what failed
-    pub why : Failed trouble before (taken ++ (untaken ++ unread))
+    -- the trouble names an end that may have failed
+    pub why : MayHaveFailed trouble before (taken ++ (untaken ++ unread))
 
   -- the answer of a call that plays a file: it was played to its end, or not, and then the trouble says why
   abbrev pub PlaysFile : Result (Unit {0}) Trouble → Lent → Lent → Type 0
   PlaysFile result before after = MatchResult result (λ _. Played before after) (λ trouble. Stuck trouble before after)
 
-  -- the output has room for the tape of what the input brings; where that is not known, for any number of bytes
+  -- the output has room for the tape of what the input brings; where that is not known, for the tape of any file
   abbrev pub HasRoomForTape : Places → Option (List ℕ) → Output → Type 0
-  HasRoomForTape places None output = (count : ℕ) → HasRoom output count
+  HasRoomForTape places None output = (file : List ℕ) → HasRoom output (length (tape_of lot meaning places file))
   HasRoomForTape places (Some file) output = HasRoom output (length (tape_of lot meaning places file))
 
   -- nothing can fail, where the session is lent so many places: no read may, and the output has room

@@ -90,8 +90,8 @@ abbrev pub next_fills : Option ℕ → List Row → Option ℕ
 next_fills None rows = None
 next_fills (Some k) rows = option_map (λ row. k + 1) (slice_get rows k)
 
-abbrev pub filled : Standing → Turn
-filled s = turn (due_fill s.spot.fills (rows_at s.stage)) (at s.spot.place (next_fills s.spot.fills (rows_at s.stage)) s.stage)
+abbrev pub fill_turn : Standing → Turn
+fill_turn s = turn (due_fill s.spot.fills (rows_at s.stage)) (at s.spot.place (next_fills s.spot.fills (rows_at s.stage)) s.stage)
 
 -- the first line of message n that is answered so; and whether F lines follow
 abbrev pub first_line : ℕ → FileReply → Option Line
@@ -147,7 +147,7 @@ module _ (lot : ℕ) (meaning : ℕ → List ℕ → List ℕ) where
 
   -- a piece comes: an F line that is due is the answer, before another byte is taken
   abbrev pub advanced : Standing → List ℕ → Advanced
-  advanced s piece = let t = filled s in (if is_some t.line then advanced_by 0 t else taken_from t.standing piece)
+  advanced s piece = let t = fill_turn s in (if is_some t.line then advanced_by 0 t else taken_from t.standing piece)
 
 -- whether no more lines become due
 abbrev pub is_over : Place → Bool

@@ -66,7 +66,7 @@ impl Sink for Memory<'_> {
 }
 
 /// Plays a file that lies in memory to an output in memory, as `play_file` does. Where the output has a place left for each byte of the tape, it
-/// succeeds, and the tape is written behind what the output held.
+/// succeeds, and the tape is written behind what the output held. Places behind that may hold anything.
 pub fn play_in_memory<S: Sharing>(
     file: &[u8],
     output: &mut Memory<'_>,

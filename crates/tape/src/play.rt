@@ -22,12 +22,13 @@ use std::io::ErrorKind;
 const PIECE: usize = 65_536;
 
 /// Plays a whole file: it comes from `input`, its session opens on the two lists, `method` shares out its close over the two work lists, and its
-/// tape goes to `output`. Nothing is allocated. The lines that a piece of the file makes due are written before the next piece is read, and a read
-/// or a write that was interrupted goes on.
+/// tape goes to `output`. Nothing is allocated.
 ///
 /// It succeeds at the end of the file, or as soon as the file is refused: its tape is written then. It ends in trouble only where a read, a write or
-/// a flush fails: a beginning of the tape is written then, and the trouble says which it was. Lists and work lists hold what the messages leave that
-/// were taken.
+/// a flush may fail, and the trouble names the end that may have failed. A beginning of the tape is written then, and where a read failed, every line
+/// that was due before. Lists and work lists hold what the messages leave that were taken.
+// What a piece of the file makes due is written before the next is read, since whoever sends the file may wait for it. A read or a write that was
+// interrupted is tried again.
 pub fn play_file<I: Source, O: Sink, S: Sharing>(
     input: &mut I,
     output: &mut O,

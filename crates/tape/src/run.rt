@@ -38,15 +38,15 @@ enum Place {
     Over,
 }
 
-/// How many bytes of a piece were taken, and the line that is due then, or none where all were taken.
+/// How many bytes of a piece were taken, and the line that is due then. Where none is, all were taken.
 #[derive(Clone, Copy, PartialEq, Eq, Debug)]
 pub struct Advance {
     pub taken: usize,
     pub line: Option<Line>,
 }
 
-/// A run of a file: the session, where the run stands in the file, and the bytes of a message that has begun. Each call is lent the two lists, and
-/// `advance` the method and the two work lists besides. None of them can refuse.
+/// A run of a file: the session, where the run stands in the file, and the bytes of a message that has begun. `open` and `advance` are lent the two
+/// lists, `advance` the method and the two work lists besides, and `finish` the list of orders. None of them can refuse.
 #[derive(Drop, Debug)]
 pub struct Run {
     session: Session,
@@ -59,7 +59,8 @@ pub struct Run {
 impl Run {
     /// Begins a run with a session that opens on these lists, which are then empty.
     pub fn open(orders: &mut List<Row>, notices: &mut List<Notice>) -> Run
-        ensures value { (claims gifts : Elements ℕ) → standing result orders.new notices.new claims gifts ≡ opened_at (opening (lists orders.old notices.old claims gifts)) }
+        ensures value { (claims gifts : Elements ℕ) →
+            standing result orders.new notices.new claims gifts ≡ opened_at (opening (lists orders.old notices.old claims gifts)) }
         ensures pieces { (lot : ℕ) (meaning : _) → Divides meaning → (claims gifts : Elements ℕ) →
             AnswersEachFile lot meaning (standing result orders.new notices.new claims gifts) (places_of (lists orders.old notices.old claims gifts)) }
         ensures upheld { (lot : ℕ) (meaning : _) → Divides meaning → (claims gifts file : Elements ℕ) →
@@ -75,7 +76,8 @@ impl Run {
     }
 
     /// Takes bytes of a piece of the file until a line is due, or until all are taken, and answers how many it took, and the line. After the P
-    /// line of a close each call answers an F line of it and takes no byte, until none is left.
+    /// line of a close each call answers an F line of it and takes no byte, until none is left. Lists and work lists then hold what the messages
+    /// that were taken leave.
     pub fn advance<S: Sharing>(
         &mut self,
         orders: &mut List<Row>,
@@ -113,7 +115,7 @@ impl Run {
         Advance { taken, line: None }
     }
 
-    /// Whether no more lines become due: the file was refused, or has ended.
+    /// Whether the file was refused, or has ended: no byte makes a line due any more.
     pub fn is_over(&self) -> bool
         ensures value { result ≡ is_over (spot_of self.now).place }
     {
@@ -123,7 +125,8 @@ impl Run {
         }
     }
 
-    /// Says that the file ends here, and answers the line that is due, or none. The run is over when it has answered none.
+    /// Says that the file ends here, and answers the line that is due, or none: the F lines that are left, and then the refusal of a header or a message
+    /// that is cut. The run is over from then on.
     pub fn finish(&mut self, orders: &List<Row>) -> Option<Line>
         ensures types { IfSome result OfTypes }
         ensures value { result ≡ line_at_end (spot_of self.old) (kept orders.now) }
