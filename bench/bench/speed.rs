@@ -14,8 +14,9 @@ const MOST: usize = 40;
 
 const MESSAGES: f64 = 1e6;
 
-/// A real program passes when it takes at most this many times the reference's time.
-const BOUND: f64 = 1.2;
+/// A real program passes when it takes at most this many times the reference's time, and no more
+/// memory.
+const BOUND: f64 = 1.05;
 
 struct Measured {
     times: Vec<Duration>,
@@ -91,16 +92,15 @@ pub fn run(work: &Path, pairs: &[Pair; 2]) -> Verdict {
     let mut passes = true;
     for (pair, (real, reference)) in pairs.iter().zip(&measured) {
         let ratio = real.best().as_secs_f64() / reference.best().as_secs_f64();
-        passes &= ratio <= BOUND;
+        passes &= ratio <= BOUND && real.memory <= reference.memory;
         println!("{}{ratio:>8.2}", real.row(pair.method, "real"));
         println!("{}", reference.row(pair.method, "reference"));
     }
-    let verdict = if passes {
-        "PASS: every"
+    if passes {
+        println!("PASS: every ratio is at most {BOUND}, and no more memory is taken");
     } else {
-        "FAIL: not every"
-    };
-    println!("{verdict} ratio is at most {BOUND}");
+        println!("FAIL: a ratio is above {BOUND}, or more memory is taken");
+    }
     Ok(passes)
 }
 

@@ -6,7 +6,7 @@ use Rattle.std.specs.Io.KnownBytes.{Appends}
 use Rattle.tape.specs.declared.trouble.Trouble.{Trouble}
 use Rattle.tape.specs.Ends.{Input, Output}
 use Rattle.tape.specs.Places.{Places, places_of}
-use Rattle.tape.specs.Played.{Lent, Played, Stuck, PlaysFile}
+use Rattle.tape.specs.Played.{Lent, PlaysFile}
 use Rattle.tape.specs.Tapes.{texts, lines_of_file, tape_of}
 use Rattle.player.specs.Played.{program_places, WritesTape, WritesBeginning}
 

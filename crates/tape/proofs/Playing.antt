@@ -10,7 +10,7 @@ use Rattle.line.specs.Texts.{line_text}
 use Rattle.tape.specs.declared.run.Advance.{Advance}
 use Rattle.tape.specs.Ends.{Output}
 use Rattle.tape.specs.Pieces.{answered, offered, Calls, Went, FinishesAt}
-use Rattle.tape.specs.Played.{Plays, Stops, Finished, Unfinished}
+use Rattle.tape.specs.Parts.{Plays, Stops, Finished, Unfinished}
 use Rattle.tape.specs.Sending.{Sends, Breaks}
 use Rattle.tape.specs.Standing.{Spot, Standing, advanced, line_at_end, spot_at_end}
 use Rattle.tape.specs.Tapes.{texts}

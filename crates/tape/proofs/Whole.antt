@@ -12,9 +12,10 @@ use Rattle.tape.specs.declared.trouble.Trouble.{Trouble}
 use Rattle.tape.specs.declared.trouble.Trouble.TheVariants as trouble
 use Rattle.tape.specs.Ends.{Input, Output, HasRoom}
 use Rattle.tape.specs.Messages.{rows_at}
-use Rattle.tape.specs.Pieces.{Went, AnswersFile, answered}
+use Rattle.tape.specs.Pieces.{Went, AnswersFile}
+use Rattle.tape.specs.Parts.{Plays, Stops, Finished, Unfinished}
 use Rattle.tape.specs.Places.{opening, lists_at, places_of}
-use Rattle.tape.specs.Played.{Lent, lent, Plays, Stops, Finished, Unfinished, Played, MayHaveFailed, IfInput, AllDue, Stuck, PlaysFile, as_trouble, NothingFails, HasRoomForTape}
+use Rattle.tape.specs.Played.{Lent, lent, Played, MayHaveFailed, IfInput, AllDue, Stuck, PlaysFile, as_trouble, NothingFails, HasRoomForTape}
 use Rattle.tape.specs.Runs.{opened_at}
 use Rattle.tape.specs.Sending.{Sends, Breaks}
 use Rattle.tape.specs.Standing.{Standing, is_over}

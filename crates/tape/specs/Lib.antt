@@ -9,4 +9,5 @@ pub mod Pieces
 pub mod Ends
 pub mod Memory
 pub mod Sending
+pub mod Parts
 pub mod Played

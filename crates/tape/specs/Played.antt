@@ -1,18 +1,16 @@
 -- What a call that plays a file has read, written and left. Assumes nothing.
 use Rattle.std.specs.Prelude.{◌≡◌, ⊤, ℕ, true, false, List, [], ◌++◌, length, All, None, Some, Option, Ok, Err, IfSome, Result, MatchResult}
 use Rattle.std.specs.Io.KnownBytes.{Appends, Consumes}
-use Rattle.order.specs.declared.kind.Row.{Row}
 use Rattle.line.specs.declared.Line.{Line}
 use Rattle.line.specs.Reading.{OfTypes}
 use Rattle.tape.specs.declared.trouble.Trouble.{Trouble}
 use Rattle.tape.specs.declared.trouble.Trouble.TheVariants as trouble
 use Rattle.tape.specs.Ends.{Input, Output, HasRoom}
-use Rattle.tape.specs.Pieces.{FinishesAt, Went, stage_after_file}
+use Rattle.tape.specs.Pieces.{Went, stage_after_file}
 use Rattle.life.specs.Stages.{Stage}
 use Rattle.tape.specs.Places.{Lists, Places, opening, lists_at, places_of}
 use Rattle.tape.specs.Runs.{opened_at}
-use Rattle.tape.specs.Sending.{Sends, Breaks}
-use Rattle.tape.specs.Standing.{Spot, Standing}
+use Rattle.tape.specs.Standing.{Standing}
 use Rattle.tape.specs.Tapes.{texts, lines_of_file, tape_of}
 
 -- what such a call is lent: where the file comes from, where its tape goes, the two lists and the two work lists
@@ -34,38 +32,14 @@ abbrev pub as_trouble : {E : Type 0} → (E → Trouble) → Result (Unit {0}) E
 as_trouble sort (Ok nothing) = Ok nothing
 as_trouble sort (Err error) = Err (sort error)
 
--- an end is played, with lines held back neither before nor after it
-pub record Finished (spot : Spot) (rows : List Row) (before after : Output) : Type 0 where
-  pub lines : List Line
-  pub types : All OfTypes lines
-  pub all : (last : List Line) → FinishesAt spot rows last → last ≡ lines
-  pub sends : Sends before after [] [] (texts lines)
-
--- or not to its end
-pub record Unfinished (spot : Spot) (rows : List Row) (before after : Output) : Type 0 where
-  pub lines : List Line
-  pub first : (last : List Line) → FinishesAt spot rows last → (more : List Line) × (last ≡ lines ++ more)
-  pub breaks : Breaks before after (texts lines)
-
 -- closes are shared by a method of this lot and this meaning
 module _ (lot : ℕ) (meaning : ℕ → List ℕ → List ℕ) where
-  -- a piece is played, with lines held back neither before nor after it
-  pub record Plays (s s' : Standing) (before after : Output) (piece : List ℕ) : Type 0 where
-    pub lines : List Line
-    pub types : All OfTypes lines
-    pub went : Went lot meaning s piece lines s'
-    pub sends : Sends before after [] [] (texts lines)
-    -- no F line is due any more
-    pub quiet : s'.spot.fills ≡ None
+  -- the lines of a file, where as many places are lent, and their bytes
+  abbrev pub lines_with : Lent → List ℕ → List Line
+  lines_with l file = lines_of_file lot meaning (places_of l.lists) file
 
-  -- or not to its end
-  pub record Stops (s s' : Standing) (before after : Output) (piece : List ℕ) : Type 0 where
-    pub bytes : List ℕ
-    pub rest : List ℕ
-    pub split : piece ≡ bytes ++ rest
-    pub lines : List Line
-    pub went : Went lot meaning s bytes lines s'
-    pub breaks : Breaks before after (texts lines)
+  abbrev pub tape_with : Lent → List ℕ → List ℕ
+  tape_with l file = tape_of lot meaning (places_of l.lists) file
 
   -- a whole file was played
   pub record Played (before after : Lent) : Type 0 where
@@ -73,21 +47,20 @@ module _ (lot : ℕ) (meaning : ℕ → List ℕ → List ℕ) where
     pub bytes : List ℕ
     pub read : Consumes before.input.bytes after.input.bytes bytes
     -- what is not read makes no line due: theirs are the lines of the file that the input brings
-    pub whole : IfSome before.input.bytes (λ file. lines_of_file lot meaning (places_of before.lists) file ≡ lines_of_file lot meaning (places_of before.lists) bytes)
+    pub whole : IfSome before.input.bytes (λ file. lines_with before file ≡ lines_with before bytes)
     -- their tape was written, and nothing else
-    pub wrote : Appends before.output.bytes after.output.bytes (tape_of lot meaning (places_of before.lists) bytes)
+    pub wrote : Appends before.output.bytes after.output.bytes (tape_with before bytes)
     -- lists and work lists hold what their messages leave
     pub left : after.lists ≡ lists_at (stage_after_file meaning (opening before.lists) bytes)
     -- the numbers of their lines are of their types
-    pub types : All OfTypes (lines_of_file lot meaning (places_of before.lists) bytes)
+    pub types : All OfTypes (lines_with before bytes)
     -- so the bytes of the tape determine the lines
-    pub readable : (others : List Line) → All OfTypes others → texts others ≡ tape_of lot meaning (places_of before.lists) bytes
-        → others ≡ lines_of_file lot meaning (places_of before.lists) bytes
+    pub readable : (others : List Line) → All OfTypes others → texts others ≡ tape_with before bytes → others ≡ lines_with before bytes
 
   -- what may have failed: a read, where one may; or a write or a flush, where the output had no room for sure for the tape of the file
   abbrev pub MayHaveFailed : Trouble → Lent → List ℕ → Type 0
   MayHaveFailed (trouble.Input error) before file = before.input.may_fail ≡ true
-  MayHaveFailed (trouble.Output error) before file = HasRoom before.output (length (tape_of lot meaning (places_of before.lists) file)) → ⊥
+  MayHaveFailed (trouble.Output error) before file = HasRoom before.output (length (tape_with before file)) → ⊥
 
   -- all bytes that were read were taken, and what is written are the lines that a run answers on them, to the last that is due
   pub record AllDue (start : Stage) (taken untaken written : List ℕ) : Type 0 where
@@ -110,7 +83,7 @@ module _ (lot : ℕ) (meaning : ℕ → List ℕ → List ℕ) where
     -- a beginning of its tape was written, and nothing else
     pub written : List ℕ
     pub unwritten : List ℕ
-    pub begins : tape_of lot meaning (places_of before.lists) (taken ++ (untaken ++ unread)) ≡ written ++ unwritten
+    pub begins : tape_with before (taken ++ (untaken ++ unread)) ≡ written ++ unwritten
     pub wrote : Appends before.output.bytes after.output.bytes written
     -- where a read failed, no line is wanting that was due before
     pub due : IfInput trouble (AllDue (opening before.lists) taken untaken written)

@@ -2,7 +2,8 @@
 ghost use Rattle.std.specs.Prelude.{◌≡◌, ◌<◌, ℕ, List as Elements, [], length, MatchResult, OnOk, IsOk};
 ghost use Rattle.list.specs.Held.{kept};
 ghost use Rattle.tape.specs.Places.{lists, places_of};
-ghost use Rattle.tape.specs.Played.{lent, Plays, Stops, Finished, Unfinished, PlaysFile, NothingFails};
+ghost use Rattle.tape.specs.Parts.{Plays, Stops, Finished, Unfinished};
+ghost use Rattle.tape.specs.Played.{lent, PlaysFile, NothingFails};
 ghost use Rattle.tape.specs.Runs.{spot_of, session_of, standing};
 ghost use Rattle.tape.specs.Tapes.{lines_of_file};
 ghost use Rattle.tape.specs.Upheld.{messages_in, UpheldTape};
