@@ -6,7 +6,7 @@ pub record Input : Type 0 where
   pub bytes : Option (List ℕ)
   pub may_fail : Bool
 
--- the bytes that were written, where they are known, and how many more are taken for sure, or none where any write may fail
+-- the bytes that were written, where they are known, and how many more are taken for sure, where that is known: then no flush fails
 pub record Output : Type 0 where
   pub bytes : Option (List ℕ)
   pub room : Option ℕ

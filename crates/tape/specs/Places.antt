@@ -45,7 +45,7 @@ blank_row = unfilled_row 0 Crowd Buy false 0 0
 abbrev pub blank_notice : Notice
 blank_notice = record { amount = pos 0; reference = 0; mandatory = false }
 
--- an empty list of so many places
+-- an empty list of so many places; where its memory lies makes no difference to a tape
 abbrev pub blank_list : {T : Type 0} → ℕ → T → Held T
 blank_list places blank = record { places = record { ref_ptr = (0, 0); ghost_name = 0; now = replicate places blank }; count = 0 }
 
