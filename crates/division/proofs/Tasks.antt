@@ -10,14 +10,6 @@ abbrev pub onto : List ℕ → Result (List ℕ) Fault → Result (List ℕ) Fau
 onto cs (Ok ds) = Ok (cs ++ ds)
 onto cs (Err f) = Err f
 
-onto_none : (ds : Result (List ℕ) Fault) → onto [] ds ≡ ds
-onto_none (Ok ds) = refl
-onto_none (Err f) = refl
-
--- before a claim was read
-pub claims_start : (cs : List ℕ) (n : ℕ) (ws : List (List ℕ)) → cs ≡ [] → n ≡ 0 → onto cs (claims_of (n + 2) ws) ≡ claims_of 2 ws
-claims_start cs n ws none zero = rw (none, zero) (onto_none (claims_of 2 ws))
-
 onto_before : (cs : List ℕ) (c : ℕ) (ds : Result (List ℕ) Fault) → onto cs (before (Ok c) ds) ≡ onto (cs ++ c ∷ []) ds
 onto_before cs c (Ok ds) = ap Ok (sym (append_assoc cs (c ∷ []) ds))
 onto_before cs c (Err f) = refl

@@ -13,7 +13,7 @@ ghost use Rattle.division.specs.Table.{table_of};
 
 use columns::table_by;
 use gifts::gifts_by;
-use reading::{LARGEST_AMOUNT, LARGEST_CLAIM, is_blank, number};
+use reading::{LARGEST_AMOUNT, LARGEST_CLAIM, first_word, number};
 use sharing::{ByArrival, ByTurns};
 use std::alloc::{AllocError, AllocFailed, Global};
 use std::error::Error;
@@ -97,13 +97,13 @@ pub fn divided(heap: Global, text: &[u8]) -> Result<String, Fault>
 pub fn read_task(heap: Global, text: &[u8]) -> Result<Task, Fault>
     ensures { Answers (task_of text.now) asked result }
 {
-    let mut words = text.split(is_blank).filter(|word| !word.is_empty());
-    let first = words.next().ok_or(Fault::NoAmount)?;
+    let (first, mut rest) = first_word(text).ok_or(Fault::NoAmount)?;
     let amount = number(first, 1, LARGEST_AMOUNT)?;
     let mut claims = Vec::new(heap);
-    for word in words {
+    while let Some((word, after)) = first_word(rest) {
         let claim = number(word, claims.len() + 2, LARGEST_CLAIM)?;
         claims.push(claim as u32)?;
+        rest = after;
     }
     if claims.is_empty() {
         return Err(Fault::NoClaim);

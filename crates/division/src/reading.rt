@@ -1,6 +1,7 @@
-// Blanks and numbers, as a text has them.
-ghost use Rattle.std.specs.Prelude.{◌≡◌, ◌≤◌, IfOk};
-ghost use Rattle.division.specs.Words.{blank};
+// Words and numbers, as a text has them.
+ghost use Rattle.std.specs.Prelude.{◌≡◌, ◌<◌, ◌≤◌, [], ◌∷◌, length, IfOk, IfSome, MatchOption};
+ghost use Rattle.std.specs.List.{prefix_len, position, position_or_len};
+ghost use Rattle.division.specs.Words.{blank, words};
 ghost use Rattle.division.specs.Numbers.{digits, number_of};
 
 use super::Fault;
@@ -12,10 +13,48 @@ pub(crate) const LARGEST_AMOUNT: u64 = u64::MAX;
 pub(crate) const LARGEST_CLAIM: u64 = u32::MAX as u64;
 
 /// Whether the byte stands between words.
-pub(crate) fn is_blank(byte: &u8) -> bool
+fn is_blank(byte: &u8) -> bool
     ensures { result ≡ blank byte.now }
 {
     matches!(byte, b' ' | b'\t' | b'\n' | b'\r')
+}
+
+/// How many blanks the text begins with.
+fn gap_len(text: &[u8]) -> usize
+    ensures value { result ≡ prefix_len blank text.now }
+    ensures within { result ≤ length text.now }
+{
+    text.iter().take_while(|byte| is_blank(byte)).count()
+}
+
+/// The place of the first blank, or none.
+fn first_blank(text: &[u8]) -> Option<usize>
+    ensures value { result ≡ position blank text.now }
+{
+    text.iter().position(is_blank)
+}
+
+/// How many bytes come before the first blank, or, where there is none, how many the text has.
+#[tactic(auto, using(crate::proofs::Words::first_or_all))]
+fn word_len(text: &[u8]) -> usize
+    ensures value { result ≡ position_or_len blank text.now }
+    ensures within { result ≤ length text.now }
+{
+    first_blank(text).unwrap_or(text.len())
+}
+
+/// The first word of the text, and the text after it; or none, where the text has no word.
+// By its two ends: `split` makes a part of each blank, and a text with long runs of blanks takes a third to a half as long again.
+#[tactic(auto, using(crate::proofs::Words::no_word, crate::proofs::Words::word_cut, crate::proofs::Words::word_some))]
+pub(crate) fn first_word(text: &[u8]) -> Option<(&[u8], &[u8])>
+    ensures words { MatchOption result (words text.now ≡ []) (λ cut. words text.now ≡ cut.0.now ∷ words cut.1.now) }
+    ensures shorter { IfSome result (λ cut. length cut.1.now < length text.now) }
+{
+    let (_, rest) = text.split_at(gap_len(text));
+    if rest.is_empty() {
+        return None;
+    }
+    Some(rest.split_at(word_len(rest)))
 }
 
 /// Whether each byte of the word is a digit.
